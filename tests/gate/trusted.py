@@ -29,12 +29,12 @@ NO_COMMENT = "no comment"
 # Lemmas that definitions name, as a field of a record may be a proof, and as a value may be the only one that has a
 # property. Each has been read: its type is a proposition, or `TheOnly` of the property that the definition names too.
 LEMMAS = {
-    ("club_games/specs/CsaOnly.antt", "csa-part"),
-    ("club_games/specs/PdnOnly.antt", "pdn-part"),
+    ("club_games/specs/internal/CsaOnly.antt", "csa-part"),
+    ("club_games/specs/internal/PdnOnly.antt", "pdn-part"),
     ("club_session/specs/ServedStates.antt", "left_wider"),
     ("club_session/specs/ServedStates.antt", "served_settled"),
     ("club_session/specs/ServedStates.antt", "served_stays"),
-    ("masks/specs/Words.antt", "word_back"),
+    ("masks/specs/internal/Words.antt", "word_back"),
 }
 # That there is exactly one value with a property: what a definition by description rests on.
 DESCRIPTION = "squares", "squares/specs/TheOnly.antt", "TheOnly"

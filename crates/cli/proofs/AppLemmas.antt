@@ -5,8 +5,9 @@ use Rattle.clap.specs.Simple.{built}
 use Rattle.clap.specs.declared.builder.arg.Arg.{Arg}
 use Rattle.clap.specs.declared.builder.command.Command.{Command}
 use Rattle.clap.proofs.OnLiterals.{clap_on_literals}
-use Rattle.cli.specs.App.{Names, club_app, line_app, with_sub}
-use Rattle.cli.specs.Built.{IsApp, IsRule}
+use Rattle.cli.specs.App.{Names, club_app, with_sub}
+use Rattle.cli.specs.internal.App.{line_app}
+use Rattle.cli.specs.internal.Built.{IsApp, IsRule}
 
 pub arg_added : (app : App) (rule : Rule) (old new : Command) (a : Arg) → IsApp app old → IsRule rule a
     → AddsArg old a new → IsApp (with_rule app rule) new

@@ -19,8 +19,9 @@ use Rattle.clap.specs.declared.error.kind.ErrorKind.TheVariants.{DisplayVersion,
 use Rattle.clap.specs.declared.parser.matches.ArgMatches.{ArgMatches}
 use Rattle.clap.specs.declared.parser.matches.Found.{Found}
 use Rattle.cli.specs.App.{Names as GameNames, are_games}
-use Rattle.cli.specs.Asked.{IsTold, IsParserErrorFor}
-use Rattle.cli.specs.Said.{AreRefusedBy, AreSaidBy, Enters, FindsNone, Finds, IsFound, IsParserErrorOf}
+use Rattle.cli.specs.internal.Asked.{IsTold, IsParserErrorFor}
+use Rattle.cli.specs.Said.{AreRefusedBy, AreSaidBy, Finds}
+use Rattle.cli.specs.internal.Said.{Enters, FindsNone, IsFound, IsParserErrorOf}
 use Rattle.cli.specs.declared.words.BadWords.{BadWords}
 use Rattle.cli.specs.declared.words.BadWords.TheVariants as bad
 

@@ -244,25 +244,3 @@ with_files_app app =
 -- the grammar of the whole command line, with all subcommands
 abbrev pub club_app : Names → App
 club_app games = with_files_app (with_lists_app (with_games_app (with_orders_app (with_entries_app games program_app))))
-
--- ---- line of a batch
-
-abbrev pub named_line_app : App
-named_line_app =
-    record (new_app (codes "club")) { top = record (new_app (codes "club")).top { subcommand_required = true } }
-
-abbrev pub line_app : Names → App
-line_app games =
-    with_sub
-    (with_sub
-    (with_sub
-    (with_sub
-    (with_sub
-    (with_sub
-    (with_sub named_line_app member_app)
-    (event_app games))
-    (game_app (codes "seat")))
-    move_app)
-    (new_app (codes "sweep")))
-    (import_app (codes "import-pdn")))
-    import_csa_app

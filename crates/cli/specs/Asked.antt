@@ -1,5 +1,5 @@
 -- The meaning of the command line, in terms of the texts that the parser found.
-use Rattle.std.specs.Prelude.{◌≡◌, ◌≢◌, ◌⊎◌, ⊤, ◌<◌, ◌≤◌, ◌^◌, ℕ, Bool, List, [], ◌∷◌, Option, Some, None}
+use Rattle.std.specs.Prelude.{◌≡◌, ◌≢◌, ◌⊎◌, ◌<◌, ◌≤◌, ◌^◌, ℕ, Bool, List, [], ◌∷◌, Option, Some, None}
 use Rattle.std.specs.Prelude.{option_map, unwrap_or}
 use Rattle.std.specs.Prelude.{codes, string_bytes, if◌then◌else◌, ◌||◌, true, false, map}
 use Rattle.std.specs.List.{list_any}
@@ -26,12 +26,9 @@ use Rattle.club_requests.specs.declared.questions.GameFilter.{GameFilter}
 use Rattle.club_requests.specs.declared.questions.GameFilter.TheVariants.{All, Running, Overdue}
 use Rattle.cli.specs.declared.words.Task.TheVariants.{Init, Request, Ask, Upgrade, Verify, Backup, Batch}
 use Rattle.cli.specs.declared.batches.BatchOptions.{BatchOptions}
-use Rattle.cli.specs.declared.batches.BatchOrder.{BatchOrder}
 use Rattle.cli.specs.declared.batches.RoundRobin.{RoundRobin}
 use Rattle.cli.specs.declared.words.Order.{Order}
 use Rattle.cli.specs.declared.words.ServeOptions.{ServeOptions}
-use Rattle.cli.specs.declared.words.BadWords.{BadWords}
-use Rattle.cli.specs.declared.words.BadWords.TheVariants as bad
 use Rattle.cli.specs.declared.words.Invocation.{Invocation}
 use Rattle.cli.specs.declared.words.Invocation.TheVariants as words
 
@@ -165,11 +162,6 @@ record_word name found =
     if bytes_eq name (codes "import-pdn") || bytes_eq name (codes "import-csa")
     then Some (text_in found (codes "RECORD")) else None
 
--- the command of a batch line
-pub record AsksLine (name : List ℕ) (found : Found) (line : BatchOrder) : Type 0 where
-  pub command : AsksCommand name found line.command
-  pub from : option_map string_bytes line.«record» ≡ record_word name found
-
 -- ---- whole command line: global options and subcommand
 
 -- the command line states this order
@@ -261,14 +253,3 @@ HasNoTask name found = (IsOther task_names name × HasNoCommand name found)
 abbrev pub HasNoOrder : List ℕ → Found → Type 0
 HasNoOrder name found = (IsOther other_names name × HasNoTask name found)
     ⊎ ((name ≡ codes "serve") × HasNoPort found)
-
--- an error message with this cause, or out of memory
-abbrev pub IsParserErrorFor : Type 0 → BadWords → Type 0
-IsParserErrorFor why (bad.Text text) = why
-IsParserErrorFor why bad.Memory = ⊤
-IsParserErrorFor why (bad.Version line) = ⊥
-
--- an error message, or out of memory
-abbrev pub IsTold : BadWords → Type 0
-IsTold (bad.Version line) = ⊥
-IsTold _ = ⊤

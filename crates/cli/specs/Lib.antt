@@ -1,5 +1,4 @@
-pub mod Imports
 pub mod Asked
 pub mod App
-pub mod Built
 pub mod Said
+pub mod internal

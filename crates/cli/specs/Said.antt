@@ -1,17 +1,14 @@
 -- Correct results of parsing: the order that a command line states, or the cause of the error.
-use Rattle.std.specs.Prelude.{◌≡◌, ◌≢◌, ◌⊎◌, ⊤, List, [], Some, None}
-use Rattle.clap.specs.Words.{App, IsAmong, Kinds, Text, fault_of, found_of, matches_of, rows_of, subcommand_of}
-use Rattle.clap.specs.Words.{subcommand_rows_of}
+use Rattle.std.specs.Prelude.{◌≡◌, ◌≢◌, ◌⊎◌, ⊤, List, [], Some}
+use Rattle.clap.specs.Words.{App, IsAmong, Kinds, Text, fault_of, matches_of, rows_of, subcommand_of}
 use Rattle.clap.specs.declared.error.kind.ErrorKind.{ErrorKind}
-use Rattle.clap.specs.declared.error.kind.ErrorKind.TheVariants.{DisplayVersion, OutOfMemory}
-use Rattle.clap.specs.declared.parser.matches.ArgMatches.{ArgMatches}
+use Rattle.clap.specs.declared.error.kind.ErrorKind.TheVariants.{DisplayVersion}
 use Rattle.clap.specs.declared.parser.matches.Found.{Found}
-use Rattle.cli.specs.declared.batches.BatchOrder.{BatchOrder}
 use Rattle.cli.specs.declared.words.BadWords.{BadWords}
 use Rattle.cli.specs.declared.words.BadWords.TheVariants as bad
 use Rattle.cli.specs.declared.words.Invocation.{Invocation}
-use Rattle.cli.specs.App.{Names, are_games, club_app, line_app}
-use Rattle.cli.specs.Asked.{Asks, AsksLine, HasNoCommand, HasNoOrder}
+use Rattle.cli.specs.App.{Names, are_games, club_app}
+use Rattle.cli.specs.Asked.{Asks, HasNoOrder}
 
 -- ---- results
 
@@ -36,13 +33,6 @@ pub record AreSaidBy {S : Type 0} (app : Names → App) (asks : Found → Text �
 -- the result is what the command line states
 abbrev pub StatesInvocation : List Text → Invocation → Type 0
 StatesInvocation = AreSaidBy club_app Asks
-
-abbrev pub AsksOneLine : Found → Text → Found → BatchOrder → Type 0
-AsksOneLine all name found line = AsksLine name found line
-
--- the result is what a batch line states
-abbrev pub AreSaidInLine : List Text → BatchOrder → Type 0
-AreSaidInLine = AreSaidBy line_app AsksOneLine
 
 -- ---- errors
 
@@ -69,38 +59,3 @@ AreRefusedBy app is_none words (bad.Text text) =
 -- the cause of an error of a command line
 abbrev pub AreRefused : List Text → BadWords → Type 0
 AreRefused = AreRefusedBy club_app HasNoOrder
-
--- the cause of an error of a batch line
-abbrev pub AreRefusedInLine : List Text → BadWords → Type 0
-AreRefusedInLine = AreRefusedBy line_app HasNoCommand
-
--- ---- in terms of the parser's matches
-
--- the matches have this subcommand with these arguments
-abbrev pub Enters : ArgMatches → Text → Found → Type 0
-Enters matches name found = subcommand_rows_of matches ≡ Some (name, rows_of found)
-
--- the result is what the matches state
-pub record IsFound {S : Type 0} (asks : Found → Text → Found → S → Type 0) (matches : ArgMatches)
-    (said : S) : Type 0 where
-  pub name : Text
-  pub found : Found
-  pub enters : Enters matches name found
-  pub asked : asks (found_of matches) name found said
-
--- the matches state no order
-pub record IsNoneFound (is_none : Text → Found → Type 0) (matches : ArgMatches) : Type 0 where
-  pub name : Text
-  pub found : Found
-  pub enters : Enters matches name found
-  pub is : is_none name found
-
--- the matches have no subcommand, or one that states no order
-abbrev pub FindsNone : (Text → Found → Type 0) → ArgMatches → Type 0
-FindsNone is_none matches = (subcommand_rows_of matches ≡ None) ⊎ IsNoneFound is_none matches
-
--- the result for an error of the parser
-abbrev pub IsParserErrorOf : ErrorKind → BadWords → Type 0
-IsParserErrorOf kind bad.Memory = ⊤
-IsParserErrorOf kind (bad.Version line) = kind ≡ DisplayVersion
-IsParserErrorOf kind (bad.Text text) = (kind ≢ DisplayVersion) × (kind ≢ OutOfMemory)

@@ -2,8 +2,9 @@
 
 ghost use Rattle.std.specs.Prelude.{◌≡◌, IfErr, IfOk, map, string_bytes};
 ghost use Rattle.clap.specs.Words.{found_of};
-ghost use Rattle.cli.specs.Asked.{AsksBatch, AsksLine, AsksRoundRobin, HasNoCommand, IsParserErrorFor, texts_in};
-ghost use Rattle.cli.specs.Said.{AreRefusedInLine, AreSaidInLine, AsksOneLine, FindsNone, IsFound};
+ghost use Rattle.cli.specs.Asked.{AsksBatch, AsksRoundRobin, HasNoCommand, texts_in};
+ghost use Rattle.cli.specs.internal.Asked.{AsksLine, IsParserErrorFor};
+ghost use Rattle.cli.specs.internal.Said.{AreRefusedInLine, AreSaidInLine, AsksOneLine, FindsNone, IsFound};
 
 use crate::parser::line_words;
 use crate::words::{

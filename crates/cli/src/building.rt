@@ -3,7 +3,7 @@
 ghost use Rattle.std.specs.Prelude.{◌≡◌, IfOk, true};
 ghost use Rattle.clap.specs.Words.{App, Rule, new_app, with_rule};
 ghost use Rattle.cli.specs.App.{a_number, flag, given_as, named_by, required, required_as, with_sub};
-ghost use Rattle.cli.specs.Built.{IsApp, IsRule};
+ghost use Rattle.cli.specs.internal.Built.{IsApp, IsRule};
 
 use clap::{Arg, ArgAction, value_parser};
 use std::alloc::{AllocError, Global};

@@ -4,12 +4,14 @@ ghost use Rattle.std.specs.Prelude.{IfOk, codes};
 ghost use Rattle.clap.specs.Words.{App, new_app};
 ghost use Rattle.clap.specs.declared.builder.value_parser.ValueParser.TheVariants as kind;
 ghost use Rattle.cli.specs.App.{Names, a_moment, a_port, are_games, backup_app, batch_app, club_app, event_app};
-ghost use Rattle.cli.specs.App.{game_app, games_app, given_as, import_app, import_csa_app, line_app, member_app};
-ghost use Rattle.cli.specs.App.{move_app, named_app, named_line_app, of_event_app, of_game_app, program_app};
+ghost use Rattle.cli.specs.App.{game_app, games_app, given_as, import_app, import_csa_app, member_app};
+ghost use Rattle.cli.specs.internal.App.{line_app};
+ghost use Rattle.cli.specs.App.{move_app, named_app, of_event_app, of_game_app, program_app};
+ghost use Rattle.cli.specs.internal.App.{named_line_app};
 ghost use Rattle.cli.specs.App.{required_as, required_times, round_robin_app, serve_app, show_app};
 ghost use Rattle.cli.specs.App.{with_entries_app, with_files_app, with_games_app, with_lists_app};
 ghost use Rattle.cli.specs.App.{with_orders_app, with_round_robin_flags_app};
-ghost use Rattle.cli.specs.Built.{IsApp, IsAppOf, IsRule};
+ghost use Rattle.cli.specs.internal.Built.{IsApp, IsAppOf, IsRule};
 
 use crate::building::{
     add_subcommand, flag, name_option, number, number_option, subcommand, with_word, word,

@@ -5,9 +5,11 @@ ghost use Rattle.clap.specs.Words.{first_value, found_of, kind_of};
 ghost use Rattle.cli.specs.Asked.{Asks, AsksCommand, AsksImport, AsksQuestion, AsksService, AsksTask};
 ghost use Rattle.cli.specs.Asked.{AreListed, AreShownOf, IsFlagIn, IsMomentIn, IsNumberIn, game_word};
 ghost use Rattle.cli.specs.Asked.{AsksForBoth, HasNoCommand, HasNoGame, HasNoOrder, HasNoPort, HasNoTask};
-ghost use Rattle.cli.specs.Asked.{AsksOrder, IsTold, IsParserErrorFor, record_word, text_in, which_of};
-ghost use Rattle.cli.specs.Imports.{with_text, task_with};
-ghost use Rattle.cli.specs.Said.{AreRefused, StatesInvocation, FindsNone, IsFound, IsParserErrorOf};
+ghost use Rattle.cli.specs.Asked.{AsksOrder, record_word, text_in, which_of};
+ghost use Rattle.cli.specs.internal.Asked.{IsTold, IsParserErrorFor};
+ghost use Rattle.cli.specs.internal.Imports.{with_text, task_with};
+ghost use Rattle.cli.specs.Said.{AreRefused, StatesInvocation};
+ghost use Rattle.cli.specs.internal.Said.{FindsNone, IsFound, IsParserErrorOf};
 
 use crate::batches::{Batch, BatchOptions, RoundRobin, batch_of, round_robin_of};
 use crate::parser::club_words;

@@ -1,10 +1,6 @@
 -- One step of a player's clock: time budget and increment, in seconds.
-use Rattle.std.specs.Prelude.{ℕ, ◌+◌, ◌-◌, ◌≤◌}
+use Rattle.std.specs.Prelude.{ℕ, ◌+◌, ◌-◌}
 use Rattle.clocks.specs.declared.clock.Clock.{Clock}
-
--- A move that took `elapsed` seconds is in time.
-abbrev pub IsInTime : Clock → ℕ → Type 0
-IsInTime clock elapsed = elapsed ≤ clock.left
 
 -- The clock after a move in time: the elapsed seconds are subtracted and the increment is added.
 abbrev pub after_move : Clock → ℕ → Clock

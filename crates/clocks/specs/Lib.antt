@@ -1,2 +1,3 @@
 pub mod Civil
 pub mod Clock
+pub mod internal

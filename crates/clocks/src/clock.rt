@@ -25,7 +25,8 @@ impl fmt::Display for OutOfTime {
 impl std::error::Error for OutOfTime {}
 
 impl Clock {
-    ghost use Rattle.clocks.specs.Clock.{IsInTime, after_move};
+    ghost use Rattle.clocks.specs.Clock.{after_move};
+    ghost use Rattle.clocks.specs.internal.Clock.{IsInTime};
 
     /// The clock after a move that took `elapsed` seconds.
     ///

@@ -7,7 +7,7 @@ use Rattle.store_tables.specs.Reading.{Reads}
 use Rattle.store_tables.proofs.Proved.{clean_before, rows_after, reads_on}
 use Rattle.club_core.specs.State.{place}
 use Rattle.club_rows.specs.Club.{ClubGame, ClubState, IsClub, tables}
-use Rattle.club_changes.specs.Stored.{IsFoundGame, IsStoredGame}
+use Rattle.club_changes.specs.internal.Stored.{IsFoundGame, IsStoredGame}
 use Rattle.club_changes.specs.declared.stored.StoredGame.{StoredGame}
 
 -- between two calls that only read the disk was in no doubt, and it had the rows

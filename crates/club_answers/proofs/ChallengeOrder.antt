@@ -12,7 +12,7 @@ use Rattle.club_core.specs.declared.challenges.Challenge.{Challenge}
 use Rattle.club_rows.specs.Club.{ClubState, tables}
 use Rattle.club_rows.specs.Tables.{challenge_row}
 use Rattle.club_rows.proofs.Proved.{challenges-alike, mapped_had, mapped_has}
-use Rattle.store_tables.specs.Cells.{challenge_cells}
+use Rattle.store_tables.specs.internal.Cells.{challenge_cells}
 use Rattle.store_tables.specs.Changes.{HaveSame}
 use Rattle.store_tables.specs.declared.rows.ChallengeRow.{ChallengeRow}
 use Rattle.club_answers.specs.Challenges.{AreChallengesOf, ComesBefore}

@@ -23,7 +23,7 @@ use Rattle.club_rows.proofs.Proved.{mapped_had, mapped_has}
 use Rattle.cross_tables.specs.declared.sums.OpponentScore.{OpponentScore}
 use Rattle.cross_tables.proofs.Proved.{only-one}
 use Rattle.store_tables.specs.Content.{same_key}
-use Rattle.store_tables.specs.Contents.{AreThose}
+use Rattle.store_tables.specs.internal.Contents.{AreThose}
 use Rattle.store_tables.proofs.Proved.{equal_cmp, equal_from}
 use Rattle.club_answers.specs.CrossTable.{scored_row, AreScoresIn, AreTableRows, ComesBefore, IsCrossTable}
 use Rattle.club_changes.proofs.Proved.{numbered_had, numbered_has, ids_agree, place_at}

@@ -15,7 +15,7 @@ use Rattle.club_core.proofs.Proved.{not-some, outside-alone, score-none}
 use Rattle.club_rows.specs.Club.{ClubGame, ClubState, both_games}
 use Rattle.club_lists.specs.GameSummary.{is_late}
 use Rattle.club_answers.specs.Games.{over_of, game_summary_by_rules}
-use Rattle.club_answers.specs.Overdue.{IsCounted, IsSweptThen}
+use Rattle.club_answers.specs.internal.Overdue.{IsCounted, IsSweptThen}
 
 -- what a test tells, where one answer changes a value and the other one keeps it
 changes_alone : {A : Type 0} (b : Bool) (x y : A) → (b ≡ true → y ≢ x) → (b ≡ false → y ≡ x) → (b ≡ true) ↔ (y ≢ x)

@@ -9,14 +9,14 @@ use Rattle.club_requests.specs.declared.refusals.Refusal.{Refusal}
 use Rattle.club_rules.specs.declared.names.GameKind.{GameKind}
 use Rattle.club_core.specs.State.{draughts, shogi}
 use Rattle.club_rows.specs.Club.{ClubState}
-use Rattle.club_answers.specs.Exported.{IsExported, IsWrittenSome}
+use Rattle.club_answers.specs.internal.Exported.{IsExported, IsWrittenSome}
 use Rattle.club_requests.specs.declared.questions.Question.{Question}
 use Rattle.club_requests.specs.declared.questions.Question.TheVariants.{EventRecords}
 use Rattle.club_answers.specs.AnswerTexts.{BeginsShown, HasWrittenAnswer, HasShownSome, IsText}
 use Rattle.club_answers.specs.EventRecords.{AreRecords, BeginsRecords, opening, parting}
-use Rattle.club_answers.specs.Found.{AsksRecords}
+use Rattle.club_answers.specs.internal.Found.{AsksRecords}
 use Rattle.club_answers.specs.Records.{IsRecordAt}
-use Rattle.club_answers.specs.Writing.{AddsRecord, BeginsRecord, HasRecords}
+use Rattle.club_answers.specs.internal.Writing.{AddsRecord, BeginsRecord, HasRecords}
 
 -- ---- beginnings
 

@@ -12,14 +12,14 @@ use Rattle.club_core.specs.Game.{Entry, Game, moves_of, last_position}
 use Rattle.club_core.specs.State.{draughts, shogi, place}
 use Rattle.club_core.proofs.Proved.{last-played}
 use Rattle.club_rows.specs.Club.{ClubGame, ClubState}
-use Rattle.club_rows.specs.RowView.{row_at}
+use Rattle.club_rows.specs.internal.RowView.{row_at}
 use Rattle.club_rows.specs.Tables.{entry_rows, at_start, with_entry}
 use Rattle.store_tables.specs.Cells.{game_cells, move_cells}
 use Rattle.store_tables.specs.declared.rows.GameTableRow.{GameTableRow}
 use Rattle.store_tables.specs.declared.rows.MoveRow.{MoveRow}
-use Rattle.club_changes.specs.Steps.{game_in}
+use Rattle.club_changes.specs.internal.Steps.{game_in}
 use Rattle.club_lists.specs.GameSummary.{Running}
-use Rattle.club_lists.specs.SummaryViews.{running_view}
+use Rattle.club_lists.specs.internal.SummaryViews.{running_view}
 use Rattle.club_lists.specs.declared.game_entry.RunningGame.{RunningGame}
 use Rattle.club_answers.specs.Running.{AreRunningAt, last_text, position_in, running_of}
 use Rattle.club_answers.specs.Viewed.{written_from}

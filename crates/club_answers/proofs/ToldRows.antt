@@ -15,17 +15,19 @@ use Rattle.club_core.specs.LegalState.{IsLegalIn}
 use Rattle.club_core.specs.State.{draughts, shogi, place, terms_at}
 use Rattle.club_core.proofs.Proved.{AreRules, turn-of-game}
 use Rattle.club_rows.specs.Club.{ClubGame, ClubState, IsClub, both_games}
-use Rattle.club_rows.specs.Columns.{Columns, columns_of, stored_cells}
+use Rattle.club_rows.specs.internal.Columns.{Columns, columns_of, stored_cells}
 use Rattle.club_rows.specs.Tables.{end_name_text, numbered_from}
 use Rattle.club_rows.proofs.Proved.{columns-read, draughts_laws, shogi_laws}
-use Rattle.club_changes.specs.Steps.{game_in}
+use Rattle.club_changes.specs.internal.Steps.{game_in}
 use Rattle.store_tables.specs.Cells.{game_cells}
 use Rattle.store_tables.specs.declared.rows.GameTableRow.{GameTableRow}
 use Rattle.club_changes.proofs.Proved.{numbered_at, numbered_length}
 use Rattle.club_lists.specs.GameSummary.{GameSummary}
-use Rattle.club_lists.specs.SummaryViews.{summaries_of, summary_of}
+use Rattle.club_lists.specs.internal.SummaryViews.{summaries_of, summary_of}
 use Rattle.club_lists.specs.declared.game_entry.GameEntry.{GameEntry}
-use Rattle.club_answers.specs.Games.{over_of, over_with, game_summary_by_rules, game_summaries_from, game_summaries, game_summary_of}
+use Rattle.club_answers.specs.Games.{over_of, game_summary_by_rules, game_summaries_from, game_summaries}
+use Rattle.club_answers.specs.Games.{game_summary_of}
+use Rattle.club_answers.specs.internal.Games.{over_with}
 
 -- ---- one game
 

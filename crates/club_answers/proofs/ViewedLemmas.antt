@@ -21,21 +21,23 @@ use Rattle.club_core.specs.declared.rows.GameEnd.TheVariants.{Outside}
 use Rattle.club_core.specs.declared.rows.GameRow.{GameRow}
 use Rattle.club_core.proofs.Proved.{last-played}
 use Rattle.club_exports.specs.Title.{Title, timed}
-use Rattle.club_exports.specs.Written.{FitsMoves, AddsRecord, BeginsRecord}
-use Rattle.club_exports.specs.Exported.{IsNextText}
+use Rattle.club_exports.specs.internal.Written.{FitsMoves, AddsRecord, BeginsRecord}
+use Rattle.club_exports.specs.internal.Exported.{IsNextText}
 use Rattle.club_rows.specs.Club.{both_games, ClubGame, ClubState, IsClub, tables}
-use Rattle.club_rows.specs.Replay.{terms_given}
-use Rattle.club_rows.specs.RowView.{row_at}
+use Rattle.club_rows.specs.internal.Replay.{terms_given}
+use Rattle.club_rows.specs.internal.RowView.{row_at}
 use Rattle.club_rows.specs.Tables.{number, entry_rows, move_rows, rows_of_moves, at_start, with_entry}
 use Rattle.club_rows.proofs.Proved.{Kind, six-parts, rows-from}
 use Rattle.store_tables.specs.Cells.{move_cells}
 use Rattle.store_tables.specs.declared.rows.MoveRow.{MoveRow}
-use Rattle.club_changes.specs.Steps.{HaveSame, IsRecordOf, TellsLine, FindsMoveRows, FindsSeenRows}
-use Rattle.club_changes.specs.Stored.{IsStoredGame}
+use Rattle.club_changes.specs.Steps.{HaveSame, IsRecordOf}
+use Rattle.club_changes.specs.internal.Steps.{TellsLine, FindsMoveRows, FindsSeenRows}
+use Rattle.club_changes.specs.internal.Stored.{IsStoredGame}
 use Rattle.club_changes.specs.declared.stored.StoredGame.{StoredGame}
 use Rattle.club_changes.proofs.Proved.{of_game, in_table, id_of, ply_is, ids_agree, ids_same, gathered_had, one_line}
 use Rattle.club_changes.proofs.Proved.{moves_had, pos_same, stored_as, take_next, tells_moves, tells-seen}
-use Rattle.club_answers.specs.Exported.{AddsNamed, BeginsNamed, IsTitleBy, IsTitleOf}
+use Rattle.club_answers.specs.Exported.{IsTitleOf}
+use Rattle.club_answers.specs.internal.Exported.{AddsNamed, BeginsNamed, IsTitleBy}
 use Rattle.club_answers.specs.Viewed.{written_from}
 use Rattle.club_answers.specs.declared.exported.RecordNames.{RecordNames}
 

@@ -1,10 +1,9 @@
 -- The cross table of an event, from the ended games in a state of the club.
-use Rattle.std.specs.Prelude.{◌≡◌, pos, ◌<◌, ◌⊎◌, ℕ, suc, List, [], ◌∷◌, map, Option, Some, None}
+use Rattle.std.specs.Prelude.{◌≡◌, ◌<◌, ◌⊎◌, ℕ, suc, List, [], ◌∷◌, map, Option, Some, None}
 use Rattle.sqlite.specs.Order.{Row}
 use Rattle.sqlite_rules.specs.Lists.{Has}
 use Rattle.sqlite_trees.specs.Tree.{IsAscending}
 use Rattle.cross_tables.specs.declared.sums.OpponentScore.{OpponentScore}
-use Rattle.cross_tables.specs.declared.sums.ScoreTotals.{ScoreTotals}
 use Rattle.cross_tables.specs.declared.standings.Standing.{Standing}
 use Rattle.cross_tables.specs.Cells.{cell_of}
 use Rattle.cross_tables.specs.Lines.{header_text, line_text}
@@ -16,7 +15,6 @@ use Rattle.club_core.specs.State.{place}
 use Rattle.club_rows.specs.Club.{both_games, ClubState}
 use Rattle.club_rows.specs.Scores.{scores_in}
 use Rattle.club_rows.specs.Tables.{number}
-use Rattle.store_tables.specs.declared.rows.ScoreRow.{ScoreRow}
 
 -- ---- the scores in an event
 
@@ -31,13 +29,6 @@ scored_row event scored =
     ∷ number scored.sums.draws
     ∷ number scored.sums.losses
     ∷ []
-
--- the sums in a row of scores
-pub record AreSumsOf (row : ScoreRow) (sums : ScoreTotals) : Type 0 where
-  pub points : row.points ≡ pos sums.points
-  pub wins : row.wins ≡ pos sums.wins
-  pub draws : row.draws ≡ pos sums.draws
-  pub losses : row.losses ≡ pos sums.losses
 
 -- order by member, then by opponent
 abbrev pub ComesBefore : OpponentScore → OpponentScore → Type 0

@@ -2,7 +2,6 @@
 use Rattle.std.specs.Prelude.{ℕ, suc, List, [], ◌∷◌, length, Option, Some, None, max}
 use Rattle.std.specs.Option.{option_map}
 use Rattle.squares.specs.Sides.{score_text}
-use Rattle.squares.specs.declared.sides.Score.{Score}
 use Rattle.squares.specs.declared.sides.Side.{Side}
 use Rattle.club_rules.specs.GameRules.{GameRules}
 use Rattle.club_core.specs.Events.{Terms}
@@ -12,12 +11,6 @@ use Rattle.club_core.specs.declared.rows.GameEnd.{GameEnd}
 use Rattle.club_rows.specs.Club.{ClubGame, ClubState, both_games}
 use Rattle.club_rows.specs.Tables.{end_name_text}
 use Rattle.club_lists.specs.GameSummary.{Over, GameSummary}
-
--- the end of a game; it has both an end and a score, or neither
-abbrev pub over_with : Option (List ℕ) → Option Score → Option Over
-over_with None score = None
-over_with (Some end) None = None
-over_with (Some end) (Some score) = Some (record { end = end; result = score_text score })
 
 module _ {P M E T : Type 0} (rules : GameRules P M E T) where
   -- how a game ended, with this side to move

@@ -4,12 +4,10 @@ pub mod Challenges
 pub mod CrossTable
 pub mod EventRecords
 pub mod Exported
-pub mod Found
 pub mod GameBodies
 pub mod Games
-pub mod Overdue
 pub mod Pages
 pub mod Records
 pub mod Running
 pub mod Viewed
-pub mod Writing
+pub mod internal

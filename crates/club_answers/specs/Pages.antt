@@ -13,9 +13,6 @@ use Rattle.club_lists.specs.Bodies.{game_data}
 use Rattle.club_lists.specs.Clock.{clock_data}
 use Rattle.club_lists.specs.Lines.{game_name}
 use Rattle.club_lists.specs.Page.{page_data}
-use Rattle.club_lists.specs.ShownViews.{game_view, texts_view}
-use Rattle.club_lists.specs.SummaryViews.{summary_of}
-use Rattle.club_lists.specs.declared.page.GamePage.{GamePage}
 
 -- the clock of this game of the club
 abbrev pub clock_of : ClubState → ℕ → ℕ → ClubGame → Data
@@ -24,15 +21,6 @@ clock_of s moment id game = clock_data s.members (effective_moment s moment) (ga
 -- the game that is played in its event
 abbrev pub kind_of : ClubState → ClubGame → List ℕ
 kind_of s game = game_name (kind_at (place s.events (pairing_of game).event))
-
--- the data of a page are those of this game
-pub record IsGamePage (s : ClubState) (id : ℕ) (game : ClubGame) (page : GamePage) : Type 0 where
-  pub summary : summary_of page.summary ≡ game_summary_of s id game
-  pub kind : game_name page.kind ≡ kind_of s game
-  pub viewed : ViewedGame
-  pub is_view : IsViewOf s game viewed
-  pub shown : game_view page.shown ≡ shown_of viewed
-  pub legal : AreMovesOf game (texts_view page.legal.items)
 
 -- its clock, its JSON, its kind and its legal moves
 abbrev pub IsPageOf : ClubState → ℕ → ℕ → ClubGame → List ℕ → Type 0

@@ -7,10 +7,10 @@ ghost use Rattle.sqlite.specs.Held.{state};
 ghost use Rattle.store_tables.specs.Over.{HasRows};
 ghost use Rattle.store_tables.specs.Reading.{Reads};
 ghost use Rattle.club_rows.specs.Club.{ClubState, IsClub, tables};
-ghost use Rattle.club_answers.specs.Exported.{no_call_failed};
+ghost use Rattle.club_answers.specs.internal.Exported.{no_call_failed};
 ghost use Rattle.club_requests.specs.declared.questions.Question.TheVariants as question;
 ghost use Rattle.club_answers.specs.AnswerTexts.{HasWrittenAnswer, HasShownSome};
-ghost use Rattle.club_answers.specs.Writing.{IsWritten};
+ghost use Rattle.club_answers.specs.internal.Writing.{IsWritten};
 
 use crate::found::{Shown, read_answer};
 use crate::records::write_records;

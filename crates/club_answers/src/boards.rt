@@ -9,12 +9,13 @@ ghost use Rattle.store_tables.specs.Reading.{Reads};
 ghost use Rattle.club_core.specs.Game.{Game, last_position};
 ghost use Rattle.club_core.specs.State.{place};
 ghost use Rattle.club_rows.specs.Club.{ClubGame, ClubState, IsClub, tables};
-ghost use Rattle.club_rows.specs.Replay.{terms_given};
-ghost use Rattle.club_changes.specs.Steps.{IsRecordOf, FindsSeenRows};
-ghost use Rattle.club_changes.specs.Stored.{IsStoredGame};
-ghost use Rattle.club_lists.specs.Board.{board_by};
+ghost use Rattle.club_rows.specs.internal.Replay.{terms_given};
+ghost use Rattle.club_changes.specs.Steps.{IsRecordOf};
+ghost use Rattle.club_changes.specs.internal.Steps.{FindsSeenRows};
+ghost use Rattle.club_changes.specs.internal.Stored.{IsStoredGame};
+ghost use Rattle.club_lists.specs.internal.Board.{board_by};
 ghost use Rattle.club_answers.specs.Boards.{board_of, diagram_of, draughts_diagram, shogi_diagram, IsBoardText};
-ghost use Rattle.club_answers.specs.Found.{IsFoundAs};
+ghost use Rattle.club_answers.specs.internal.Found.{IsFoundAs};
 ghost use Rattle.club_answers.specs.AnswerTexts.{IsNoGame};
 
 use crate::found::Shown;

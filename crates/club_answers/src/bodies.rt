@@ -9,8 +9,8 @@ ghost use Rattle.store_tables.specs.Reading.{Reads};
 ghost use Rattle.club_rows.specs.Club.{ClubState, IsClub, tables};
 ghost use Rattle.serde_json.specs.Written.{compact_text};
 ghost use Rattle.club_lists.specs.Bodies.{game_data};
-ghost use Rattle.club_lists.specs.ShownViews.{game_view};
-ghost use Rattle.club_answers.specs.Found.{IsFoundAs};
+ghost use Rattle.club_lists.specs.internal.ShownViews.{game_view};
+ghost use Rattle.club_answers.specs.internal.Found.{IsFoundAs};
 ghost use Rattle.club_answers.specs.AnswerTexts.{IsNoGame};
 ghost use Rattle.club_answers.specs.GameBodies.{IsGameBody, IsMovesBody, named, shown_of};
 

@@ -9,7 +9,7 @@ ghost use Rattle.store_tables.specs.Over.{HasRows};
 ghost use Rattle.store_tables.specs.Reading.{Reads};
 ghost use Rattle.club_rows.specs.Club.{ClubState, tables};
 ghost use Rattle.club_rows.specs.Tables.{challenge_row};
-ghost use Rattle.store_tables.specs.Cells.{challenge_cells};
+ghost use Rattle.store_tables.specs.internal.Cells.{challenge_cells};
 ghost use Rattle.club_answers.specs.Challenges.{AreChallengesOf, ComesBefore};
 
 use club_core::Challenge;

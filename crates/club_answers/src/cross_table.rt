@@ -4,7 +4,7 @@ ghost use Rattle.std.specs.Prelude.{◌≡◌, ◌==◌, ◌∷◌, ℕ, map, fi
 ghost use Rattle.std.specs.Option.{option_map};
 ghost use Rattle.sqlite.specs.State.{HasCleanDisk};
 ghost use Rattle.sqlite.specs.Held.{state};
-ghost use Rattle.club_core.specs.Answer.{members_of};
+ghost use Rattle.club_core.specs.internal.Answer.{members_of};
 ghost use Rattle.club_core.specs.Events as core;
 ghost use Rattle.club_core.specs.Events.{has_event_name};
 ghost use Rattle.club_core.specs.Members.{find_id};

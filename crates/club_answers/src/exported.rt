@@ -6,11 +6,12 @@ ghost use Rattle.std.specs.Option.{option_map};
 ghost use Rattle.club_core.specs.Events as core;
 ghost use Rattle.club_core.specs.Game.{Game};
 ghost use Rattle.club_core.specs.Legal.{IsLegalGame};
-ghost use Rattle.club_exports.specs.Title.{Title, timed, title_of};
-ghost use Rattle.club_exports.specs.Written.{BeginsRecord};
-ghost use Rattle.club_exports.specs.Exported.{IsWritten, IsUnderWay};
-ghost use Rattle.club_rows.specs.Replay.{terms_given};
-ghost use Rattle.club_rows.specs.RowView.{row_at};
+ghost use Rattle.club_exports.specs.Title.{Title, timed};
+ghost use Rattle.club_exports.specs.internal.Title.{title_of};
+ghost use Rattle.club_exports.specs.internal.Written.{BeginsRecord};
+ghost use Rattle.club_exports.specs.internal.Exported.{IsWritten, IsUnderWay};
+ghost use Rattle.club_rows.specs.internal.Replay.{terms_given};
+ghost use Rattle.club_rows.specs.internal.RowView.{row_at};
 ghost use Rattle.sqlite.specs.State.{HasCleanDisk};
 ghost use Rattle.sqlite.specs.Held.{state};
 ghost use Rattle.store_tables.specs.Cells.{move_cells};
@@ -19,9 +20,11 @@ ghost use Rattle.store_tables.specs.Contents.{Content};
 ghost use Rattle.store_tables.specs.Reading.{Reads};
 ghost use Rattle.club_core.specs.State.{place};
 ghost use Rattle.club_rows.specs.Club.{ClubGame, ClubState, IsClub, tables};
-ghost use Rattle.club_answers.specs.Exported.{no_call_failed, IsTitleBy, AddsNamed, BeginsNamed, AreNamesOf};
-ghost use Rattle.club_changes.specs.Steps.{IsRecordOf, FindsMoveRows, FindsSeenRows};
-ghost use Rattle.club_changes.specs.Stored.{IsStoredGame};
+ghost use Rattle.club_answers.specs.Exported.{AreNamesOf};
+ghost use Rattle.club_answers.specs.internal.Exported.{no_call_failed, IsTitleBy, AddsNamed, BeginsNamed};
+ghost use Rattle.club_changes.specs.Steps.{IsRecordOf};
+ghost use Rattle.club_changes.specs.internal.Steps.{FindsMoveRows, FindsSeenRows};
+ghost use Rattle.club_changes.specs.internal.Stored.{IsStoredGame};
 
 use clocks::Moment;
 use club_changes::StoredGame;
@@ -58,7 +61,7 @@ impl From<LookupFault> for ViewFault {
 
 impl From<WriteFault> for ViewFault {
     ghost use Rattle.std.specs.Prelude.{◌≡◌};
-    ghost use Rattle.club_answers.specs.Exported.{stopped_by};
+    ghost use Rattle.club_answers.specs.internal.Exported.{stopped_by};
 
     ghost from_gives = { λ fault given. given ≡ stopped_by fault };
 

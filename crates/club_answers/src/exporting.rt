@@ -7,8 +7,8 @@ ghost use Rattle.store_tables.specs.Over.{HasRows};
 ghost use Rattle.store_tables.specs.Reading.{Reads};
 ghost use Rattle.club_core.specs.State.{place};
 ghost use Rattle.club_rows.specs.Club.{ClubGame, ClubState, IsClub, tables};
-ghost use Rattle.club_answers.specs.Exported.{no_call_failed, IsExported, IsWrittenSome};
-ghost use Rattle.club_changes.specs.Stored.{IsStoredGame};
+ghost use Rattle.club_answers.specs.internal.Exported.{no_call_failed, IsExported, IsWrittenSome};
+ghost use Rattle.club_changes.specs.internal.Stored.{IsStoredGame};
 
 use crate::exported::{ViewFault, names_of};
 use crate::kinds::export_in;

@@ -7,7 +7,7 @@ ghost use Rattle.store_tables.specs.Over.{HasRows};
 ghost use Rattle.store_tables.specs.Reading.{Reads};
 ghost use Rattle.club_rows.specs.Club.{ClubState, IsClub, tables};
 ghost use Rattle.club_requests.specs.declared.questions.Question.TheVariants as question;
-ghost use Rattle.club_answers.specs.Found.{IsFound, IsFoundAs};
+ghost use Rattle.club_answers.specs.internal.Found.{IsFound, IsFoundAs};
 ghost use Rattle.club_answers.specs.AnswerTexts.{join_lines, IsLegalText, IsNoGame, IsTableText, IsNoEvent};
 ghost use Rattle.club_answers.specs.AnswerTexts.{IsMembersText};
 

@@ -5,10 +5,11 @@ ghost use Rattle.std.specs.Option.{option_map};
 ghost use Rattle.club_core.specs.LegalState.{IsLegalIn};
 ghost use Rattle.club_rows.specs.Club.{ClubGame, ClubState, IsClub, both_games};
 ghost use Rattle.club_rows.specs.Tables.{numbered_from};
-ghost use Rattle.club_changes.specs.Steps.{game_in};
+ghost use Rattle.club_changes.specs.internal.Steps.{game_in};
 ghost use Rattle.store_tables.specs.Cells.{game_cells};
-ghost use Rattle.club_lists.specs.SummaryViews.{summaries_of, over_by, summary_of};
-ghost use Rattle.club_answers.specs.Games.{over_with, game_summaries, game_summary_of};
+ghost use Rattle.club_lists.specs.internal.SummaryViews.{summaries_of, over_by, summary_of};
+ghost use Rattle.club_answers.specs.Games.{game_summaries, game_summary_of};
+ghost use Rattle.club_answers.specs.internal.Games.{over_with};
 
 use club_changes::swept::late::side_after;
 use club_core::Offer;

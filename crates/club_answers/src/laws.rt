@@ -3,7 +3,7 @@
 ghost use Rattle.std.specs.Prelude.{◌≡◌, ℕ, List, Option, Some};
 ghost use Rattle.club_rows.specs.Club.{ClubGame, ClubState};
 ghost use Rattle.club_answers.specs.CrossTable.{AreTableRows};
-ghost use Rattle.club_answers.specs.Overdue.{IsCounted, IsSweptThen};
+ghost use Rattle.club_answers.specs.internal.Overdue.{IsCounted, IsSweptThen};
 
 /// The games listed as overdue at a timestamp are those that a sweep at that timestamp ends.
 pub fn overdue_games_are_swept()

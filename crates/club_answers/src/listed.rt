@@ -4,14 +4,14 @@ ghost use Rattle.std.specs.Prelude.{◌<◌, map, IfOk, is_ok};
 ghost use Rattle.std.specs.Prelude.{string_bytes};
 ghost use Rattle.club_core.specs.Game.{Game};
 ghost use Rattle.club_rows.specs.Listed.{AreLegalTexts};
-ghost use Rattle.club_rows.specs.Replay.{terms_given};
+ghost use Rattle.club_rows.specs.internal.Replay.{terms_given};
 ghost use Rattle.sqlite.specs.State.{HasCleanDisk};
 ghost use Rattle.sqlite.specs.Held.{state};
 ghost use Rattle.store_tables.specs.Over.{HasRows};
 ghost use Rattle.store_tables.specs.Contents.{Content};
 ghost use Rattle.store_tables.specs.Reading.{Reads};
 ghost use Rattle.club_changes.specs.Steps.{IsRecordOf};
-ghost use Rattle.club_changes.specs.Steps.{FindsSeenRows};
+ghost use Rattle.club_changes.specs.internal.Steps.{FindsSeenRows};
 
 use club_changes::StoredGame;
 use club_reads::{LookupFault, view};

@@ -7,7 +7,7 @@ ghost use Rattle.store_tables.specs.Over.{HasRows};
 ghost use Rattle.store_tables.specs.Reading.{Reads};
 ghost use Rattle.club_rows.specs.Club.{ClubState, IsClub, tables};
 ghost use Rattle.club_requests.specs.declared.questions.Question.TheVariants as question;
-ghost use Rattle.club_answers.specs.Found.{IsFound, IsFoundAs, IsReadOf};
+ghost use Rattle.club_answers.specs.internal.Found.{IsFound, IsFoundAs, IsReadOf};
 ghost use Rattle.club_answers.specs.AnswerTexts.{IsEventGamesText, IsEventsText, IsGamesText, IsChallengeChoicesText};
 ghost use Rattle.club_answers.specs.AnswerTexts.{IsEndedGamesText};
 ghost use Rattle.club_answers.specs.AnswerTexts.{IsNoEventNamed, IsNoKey, IsNoList};

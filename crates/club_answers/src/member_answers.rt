@@ -6,7 +6,7 @@ ghost use Rattle.sqlite.specs.Held.{state};
 ghost use Rattle.store_tables.specs.Over.{HasRows};
 ghost use Rattle.store_tables.specs.Reading.{Reads};
 ghost use Rattle.club_rows.specs.Club.{ClubState, IsClub, tables};
-ghost use Rattle.club_answers.specs.Found.{IsFoundAs};
+ghost use Rattle.club_answers.specs.internal.Found.{IsFoundAs};
 ghost use Rattle.club_answers.specs.AnswerTexts.{IsMyGamesText, IsNoKey};
 
 use crate::challenges::all_challenges;

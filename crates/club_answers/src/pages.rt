@@ -8,10 +8,11 @@ ghost use Rattle.store_tables.specs.Over.{HasRows};
 ghost use Rattle.store_tables.specs.Reading.{Reads};
 ghost use Rattle.club_core.specs.State.{place};
 ghost use Rattle.club_rows.specs.Club.{ClubGame, ClubState, IsClub, tables};
-ghost use Rattle.club_changes.specs.Stored.{IsStoredGame};
+ghost use Rattle.club_changes.specs.internal.Stored.{IsStoredGame};
 ghost use Rattle.club_answers.specs.AnswerTexts.{IsClockText, IsNoGame};
-ghost use Rattle.club_answers.specs.Found.{IsFoundAs};
-ghost use Rattle.club_answers.specs.Pages.{clock_of, IsGamePage, IsPageOf, IsPageText};
+ghost use Rattle.club_answers.specs.internal.Found.{IsFoundAs};
+ghost use Rattle.club_answers.specs.Pages.{clock_of, IsPageOf, IsPageText};
+ghost use Rattle.club_answers.specs.internal.Pages.{IsGamePage};
 
 use crate::bodies::game_shown;
 use crate::found::Shown;

@@ -6,8 +6,8 @@ ghost use Rattle.sqlite.specs.Held.{state};
 ghost use Rattle.store_tables.specs.Over.{HasRows};
 ghost use Rattle.store_tables.specs.Reading.{Reads};
 ghost use Rattle.club_rows.specs.Club.{ClubState, IsClub, tables};
-ghost use Rattle.club_lists.specs.SummaryViews.{summaries_of};
-ghost use Rattle.club_answers.specs.Found.{IsReadOf};
+ghost use Rattle.club_lists.specs.internal.SummaryViews.{summaries_of};
+ghost use Rattle.club_answers.specs.internal.Found.{IsReadOf};
 ghost use Rattle.club_answers.specs.Games.{game_summaries};
 
 use crate::games::entries_of;

@@ -9,7 +9,8 @@ ghost use Rattle.store_tables.specs.Over.{HasRows};
 ghost use Rattle.store_tables.specs.Reading.{Reads};
 ghost use Rattle.club_core.specs.State.{place};
 ghost use Rattle.club_rows.specs.Club.{ClubGame, ClubState, IsClub, tables};
-ghost use Rattle.club_changes.specs.Stored.{AreLegalRows, IsStoredGame};
+ghost use Rattle.club_changes.specs.Stored.{AreLegalRows};
+ghost use Rattle.club_changes.specs.internal.Stored.{IsStoredGame};
 ghost use Rattle.club_answers.specs.Viewed.{IsViewOf, IsViewed};
 
 use crate::exported::names_of;

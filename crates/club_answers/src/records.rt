@@ -8,9 +8,9 @@ ghost use Rattle.sqlite.specs.Held.{state};
 ghost use Rattle.store_tables.specs.Over.{HasRows};
 ghost use Rattle.store_tables.specs.Reading.{Reads};
 ghost use Rattle.club_rows.specs.Club.{ClubState, IsClub, tables};
-ghost use Rattle.club_answers.specs.Exported.{no_call_failed};
+ghost use Rattle.club_answers.specs.internal.Exported.{no_call_failed};
 ghost use Rattle.club_answers.specs.EventRecords.{opening, BeginsRecords};
-ghost use Rattle.club_answers.specs.Writing.{AddsRecord, BeginsRecord, HasRecords};
+ghost use Rattle.club_answers.specs.internal.Writing.{AddsRecord, BeginsRecord, HasRecords};
 
 use crate::{ViewFault, export_game};
 use club_reads::LookupFault;

@@ -3,8 +3,9 @@
 ghost use Rattle.std.specs.Prelude.{◌≡◌, true, map, IfOk, IfSome};
 ghost use Rattle.std.specs.List.{AllByRecursion};
 ghost use Rattle.sqlite_trees.specs.Tree.{IsAscending};
-ghost use Rattle.store_tables.specs.Cells.{score_cells};
-ghost use Rattle.club_answers.specs.CrossTable.{scored_row, AreSumsOf, ComesBefore};
+ghost use Rattle.store_tables.specs.internal.Cells.{score_cells};
+ghost use Rattle.club_answers.specs.CrossTable.{scored_row, ComesBefore};
+ghost use Rattle.club_answers.specs.internal.CrossTable.{AreSumsOf};
 
 use club_reads::LookupFault;
 use club_rows::numbers::id;

@@ -6,7 +6,7 @@ ghost use Rattle.club_core.specs.Events as core;
 ghost use Rattle.club_core.specs.Game.{Game};
 ghost use Rattle.club_core.specs.Legal.{IsLegalGame};
 ghost use Rattle.club_core.specs.View.{Shows, terms_of};
-ghost use Rattle.club_rows.specs.Replay.{terms_given};
+ghost use Rattle.club_rows.specs.internal.Replay.{terms_given};
 ghost use Rattle.club_rows.specs.Tables.{move_rows};
 ghost use Rattle.sqlite.specs.State.{HasCleanDisk};
 ghost use Rattle.sqlite.specs.Held.{state};
@@ -15,7 +15,8 @@ ghost use Rattle.store_tables.specs.Over.{HasRows};
 ghost use Rattle.store_tables.specs.Contents.{Content};
 ghost use Rattle.store_tables.specs.Reading.{Reads};
 ghost use Rattle.store_tables.specs.declared.rows.MoveRow as row_of;
-ghost use Rattle.club_changes.specs.Steps.{HaveSame, IsRecordOf, TellsLine, FindsSeenRows};
+ghost use Rattle.club_changes.specs.Steps.{HaveSame, IsRecordOf};
+ghost use Rattle.club_changes.specs.internal.Steps.{TellsLine, FindsSeenRows};
 ghost use Rattle.club_answers.specs.Viewed.{IsPlayed, named};
 
 use club_changes::StoredGame;

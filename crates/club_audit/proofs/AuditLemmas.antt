@@ -13,13 +13,13 @@ use Rattle.store_tables.specs.Cells.{game_cells}
 use Rattle.store_tables.specs.declared.rows.GameTableRow.{GameTableRow}
 use Rattle.club_rows.specs.Club.{both_games, ClubGame, ClubState}
 use Rattle.club_rows.specs.Tables.{numbered_from, row_of_game}
-use Rattle.club_audit.specs.ChallengeAudit.{IsRowOfPairing}
+use Rattle.club_audit.specs.internal.ChallengeAudit.{IsRowOfPairing}
 use Rattle.club_audit.proofs.PlacedLemmas.{numbered-at, numbered-back, head-is}
 use Rattle.club_rows.proofs.Proved.{columns-told, IsToldBy}
 use Rattle.std.specs.List.{flat_map}
 use Rattle.squares.specs.declared.sides.Score.{Score}
 use Rattle.club_rows.specs.Scores.{meetings_if, meetings_in}
-use Rattle.club_audit.specs.Standings.{AreGamesOf, AreTold, Tells}
+use Rattle.club_audit.specs.internal.Standings.{AreGamesOf, AreTold, Tells}
 
 -- ---- lists
 

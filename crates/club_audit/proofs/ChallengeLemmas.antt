@@ -13,20 +13,22 @@ use Rattle.club_requests.specs.Limits.{is_challenge_number}
 use Rattle.club_core.specs.declared.seats.Pairing.{Pairing}
 use Rattle.club_core.specs.State.{place, pairing_of}
 use Rattle.club_laws.proofs.Proved.{map-at, map-got}
-use Rattle.store_tables.specs.Cells.{challenge_cells, event_cells, game_cells, member_cells}
+use Rattle.store_tables.specs.Cells.{event_cells, game_cells}
+use Rattle.store_tables.specs.internal.Cells.{challenge_cells, member_cells}
 use Rattle.store_tables.specs.declared.rows.ChallengeRow.{ChallengeRow}
 use Rattle.store_tables.specs.declared.rows.GameTableRow.{GameTableRow}
 use Rattle.store_tables.specs.declared.rows.Rows.{Rows}
 use Rattle.store_tables.proofs.Proved.{same_by}
-use Rattle.club_rows.specs.ChallengeRows.{HasShortGame}
+use Rattle.club_rows.specs.internal.ChallengeRows.{HasShortGame}
 use Rattle.club_rows.specs.Club.{both_games, ClubGame, ClubState, IsClub}
 use Rattle.club_rows.specs.EachOnce.{AreEachOnce}
 use Rattle.club_rows.specs.Tables.{challenge_row, event_row, member_row, numbered_from, row_of_game}
 use Rattle.club_rows.proofs.Proved.{challenge-had, mapped_has}
-use Rattle.club_audit.specs.Audit.{HasPeople}
-use Rattle.club_audit.specs.ChallengeAudit.{AreChallenges, HasItsGame, IsChallengeAmong, IsChallengeOf, IsGameAmong}
-use Rattle.club_audit.specs.ChallengeAudit.{IsRowOfPairing}
-use Rattle.club_audit.specs.ChallengeKeys.{key_in}
+use Rattle.club_audit.specs.internal.Audit.{HasPeople}
+use Rattle.club_audit.specs.internal.ChallengeAudit.{AreChallenges, HasItsGame, IsChallengeAmong, IsChallengeOf}
+use Rattle.club_audit.specs.internal.ChallengeAudit.{IsGameAmong}
+use Rattle.club_audit.specs.internal.ChallengeAudit.{IsRowOfPairing}
+use Rattle.club_audit.specs.internal.ChallengeKeys.{key_in}
 use Rattle.club_audit.proofs.AuditLemmas.{game-told}
 use Rattle.club_audit.proofs.GameLemmas.{placed-some, some-placed}
 use Rattle.club_audit.proofs.PlacedLemmas.{each-cons, numbered-at, numbered-back, numbered-length}

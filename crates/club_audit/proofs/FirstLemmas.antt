@@ -4,7 +4,8 @@ use Rattle.std.proofs.lemmas.Bool.{cases_eq}
 use Rattle.store_tables.specs.declared.names.Table.{Table}
 use Rattle.store_tables.specs.declared.names.Table.TheVariants.{Members, Events, EventRules, Challenges, Moves, Games}
 use Rattle.store_tables.specs.declared.names.Table.TheVariants.{Seen, Scores, Meta}
-use Rattle.club_audit.specs.FirstWrong.{IsFirstWrong, Precedes, order}
+use Rattle.club_audit.specs.FirstWrong.{order}
+use Rattle.club_audit.specs.internal.FirstWrong.{IsFirstWrong, Precedes}
 
 -- tables with one place in the order are one
 same-order : (t u : Table) → order t ≡ order u → t ≡ u

@@ -20,16 +20,20 @@ use Rattle.club_core.specs.Legal.{IsTimely, IsLegalGame}
 use Rattle.club_core.specs.LegalState.{IsGameOf}
 use Rattle.club_core.specs.State.{draughts, shogi, place, kind_at, terms_at}
 use Rattle.club_core.specs.View.{IsRowOf, Shows, clocks_in, terms_of}
-use Rattle.store_tables.specs.Cells.{event_cells, event_rule_cells, seen_cells, member_cells}
+use Rattle.store_tables.specs.Cells.{event_cells, seen_cells}
+use Rattle.store_tables.specs.internal.Cells.{event_rule_cells, member_cells}
 use Rattle.store_tables.specs.declared.rows.EventRow.{EventRow}
 use Rattle.store_tables.specs.declared.rows.EventRuleRow.{EventRuleRow}
 use Rattle.store_tables.specs.declared.rows.GameTableRow.{GameTableRow}
 use Rattle.store_tables.specs.declared.rows.MoveRow.{MoveRow}
 use Rattle.store_tables.specs.declared.rows.Rows.{Rows}
-use Rattle.club_audit.specs.Audit.{AreAllOf, AreEvents, GivesTerms, HasPeople, NamesEvent, IsWithin, EndsBy, AreRulesOf}
-use Rattle.club_audit.specs.Audit.{HaveGame, IsGameAt, NamesRule, SaysDeclares, terms_told}
-use Rattle.club_audit.specs.ChallengeAudit.{IsIdAmong}
-use Rattle.club_audit.specs.GameAudit.{HaveAll, StandsAt}
+use Rattle.club_audit.specs.Audit.{GivesTerms, EndsBy}
+use Rattle.club_audit.specs.internal.Audit.{AreAllOf, AreEvents, HasPeople, NamesEvent, IsWithin, AreRulesOf}
+use Rattle.club_audit.specs.Audit.{HaveGame, terms_told}
+use Rattle.club_audit.specs.internal.Audit.{IsGameAt, NamesRule, SaysDeclares}
+use Rattle.club_audit.specs.internal.ChallengeAudit.{IsIdAmong}
+use Rattle.club_audit.specs.GameAudit.{HaveAll}
+use Rattle.club_audit.specs.internal.GameAudit.{StandsAt}
 use Rattle.club_laws.proofs.Proved.{map-at, map-got}
 use Rattle.club_rows.specs.EachOnce.{AreEachOnce}
 use Rattle.store_tables.specs.declared.rows.SeenRow.{SeenRow}

@@ -18,13 +18,17 @@ use Rattle.club_rows.specs.declared.view.CheckedRows.{CheckedRows}
 use Rattle.club_rows.specs.declared.view.CheckedGame.{CheckedGame}
 use Rattle.club_rows.specs.EachOnce.{AreEachOnce}
 use Rattle.club_rows.specs.Seen.{seen_rows}
-use Rattle.club_rows.specs.LegalRows.{AreMovesOf, AreRowsOf, IsSoundIfShown, ShowsGame}
+use Rattle.club_rows.specs.LegalRows.{AreMovesOf, AreRowsOf}
+use Rattle.club_rows.specs.internal.LegalRows.{IsSoundIfShown, ShowsGame}
 use Rattle.club_rows.proofs.Proved.{columns-told, same-pos, kinds-alike, Kind, declares-alike, in_draughts, in_shogi}
-use Rattle.club_audit.specs.Audit.{EndsBy, IsWithin, IsWithinGiven, GivesTerms, terms_told, AreAllOf, HasPeople}
-use Rattle.club_audit.specs.Audit.{IsGameAt, NamesEvent, NamesRule, until}
-use Rattle.club_audit.specs.FirstWrong.{IsFirstWrong, Precedes, order}
-use Rattle.club_audit.specs.GameAudit.{HaveAll, IsRightIn, AreOfEvent, GivesRules, HaveAllOf, IsRightInEvent, IsRightOf}
-use Rattle.club_audit.specs.GameAudit.{IsRightAt, IsRightBy, StandsAt}
+use Rattle.club_audit.specs.Audit.{EndsBy, GivesTerms, terms_told}
+use Rattle.club_audit.specs.internal.Audit.{IsWithin, IsWithinGiven, AreAllOf, HasPeople}
+use Rattle.club_audit.specs.internal.Audit.{IsGameAt, NamesEvent, NamesRule, until}
+use Rattle.club_audit.specs.FirstWrong.{order}
+use Rattle.club_audit.specs.internal.FirstWrong.{IsFirstWrong, Precedes}
+use Rattle.club_audit.specs.GameAudit.{HaveAll, IsRightIn, IsRightOf}
+use Rattle.club_audit.specs.internal.GameAudit.{AreOfEvent, GivesRules, HaveAllOf, IsRightInEvent}
+use Rattle.club_audit.specs.internal.GameAudit.{IsRightAt, IsRightBy, StandsAt}
 use Rattle.club_audit.proofs.FirstLemmas.{UpTo, all-tables, up-to-moves, with-next, all-right, first-as, none-named}
 use Rattle.club_audit.proofs.FirstLemmas.{up-to-none}
 use Rattle.club_audit.proofs.GameLemmas.{ends-by, view-within, HasKind, all-had, all-shown, any-names, any-stands}

@@ -13,7 +13,7 @@ use Rattle.club_audit.proofs.PlacedLemmas.{one-place}
 use Rattle.std.proofs.lemmas.Bool.Decides.{Decides-int_eq}
 use Rattle.store_tables.specs.declared.rows.ChallengeRow.{ChallengeRow}
 use Rattle.club_audit.specs.declared.challenges.ChallengeKey.{ChallengeKey}
-use Rattle.club_audit.specs.ChallengeKeys.{key_in, same_number}
+use Rattle.club_audit.specs.internal.ChallengeKeys.{key_in, same_number}
 
 -- the bytes that are lent
 abbrev pub lent : Bor (List ℕ) → List ℕ

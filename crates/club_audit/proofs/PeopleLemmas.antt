@@ -9,11 +9,13 @@ use Rattle.club_rules.specs.declared.names.GameKind.{GameKind}
 use Rattle.club_core.specs.Members.{Member}
 use Rattle.club_core.specs.Events.{Event}
 use Rattle.club_core.specs.LegalState.{HaveUniqueKeys, Each, IsLegalMember, IsLegalEvent}
-use Rattle.store_tables.specs.Cells.{member_cells, event_cells, event_rule_cells}
+use Rattle.store_tables.specs.Cells.{event_cells}
+use Rattle.store_tables.specs.internal.Cells.{member_cells, event_rule_cells}
 use Rattle.store_tables.specs.declared.rows.MemberRow.{MemberRow}
 use Rattle.store_tables.specs.declared.rows.EventRow.{EventRow}
 use Rattle.store_tables.specs.declared.rows.EventRuleRow.{EventRuleRow}
-use Rattle.club_audit.specs.Audit.{IsMemberAt, AreMembers, IsEventAt, AreEvents, AreRules, AreRulesOf, SaysDeclares}
+use Rattle.club_audit.specs.internal.Audit.{IsMemberAt, AreMembers, IsEventAt, AreEvents, AreRules, AreRulesOf}
+use Rattle.club_audit.specs.internal.Audit.{SaysDeclares}
 use Rattle.club_audit.specs.Audit.{terms_told}
 use Rattle.club_rows.specs.Tables.{member_row, event_row, rule_row, kind_number, numbered_from}
 use Rattle.club_laws.proofs.Proved.{map-at, map-got}

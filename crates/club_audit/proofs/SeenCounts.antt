@@ -11,8 +11,9 @@ use Rattle.club_core.specs.Events.{Terms}
 use Rattle.club_core.specs.Game.{Entry, Game, moves_of, last_position}
 use Rattle.store_tables.specs.Cells.{move_cells, seen_cells}
 use Rattle.store_tables.specs.declared.rows.MoveRow.{MoveRow}
-use Rattle.club_rows.specs.Seen.{texts_of, FirstAt, times_in, seen_row, rows_of_texts}
-use Rattle.club_audit.specs.SeenAudit.{texts_in, AreCounted, IsCountOf, HasCounted}
+use Rattle.club_rows.specs.Seen.{texts_of, times_in, seen_row, rows_of_texts}
+use Rattle.club_rows.specs.internal.Seen.{FirstAt}
+use Rattle.club_audit.specs.internal.SeenAudit.{texts_in, AreCounted, IsCountOf, HasCounted}
 use Rattle.club_rows.specs.Tables.{with_entry, at_start, entry_rows, move_rows}
 use Rattle.club_rows.proofs.Proved.{map-more, take-got, times-none, Texts, row-had, row-has, one-row, one-first}
 use Rattle.club_rows.proofs.Proved.{times-new, times-other, first-more, first-new}
@@ -29,7 +30,7 @@ use Rattle.sqlite_rules.proofs.ListLemmas.{has_got}
 use Rattle.club_laws.proofs.Proved.{bytes_eq-same, got-append, map-at, map-got, same-bytes_eq}
 use Rattle.store_tables.specs.declared.rows.SeenRow.{SeenRow}
 use Rattle.club_rows.specs.EachOnce.{AreEachOnce}
-use Rattle.club_rows.specs.Tally.{stood_seldom, stood_then}
+use Rattle.club_rows.specs.internal.Tally.{stood_seldom, stood_then}
 use Rattle.club_rows.specs.declared.tally.Occurrences.{Occurrences}
 
 abbrev text_in : MoveRow → List ℕ

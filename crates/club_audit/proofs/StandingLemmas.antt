@@ -15,14 +15,14 @@ use Rattle.sqlite_rules.specs.Lists.{Has}
 use Rattle.sqlite_rules.proofs.ListLemmas.{has_got}
 use Rattle.squares.specs.declared.sides.Score.{Score}
 use Rattle.squares.specs.Sides.{score_text}
-use Rattle.store_tables.specs.Cells.{score_cells}
+use Rattle.store_tables.specs.internal.Cells.{score_cells}
 use Rattle.store_tables.specs.declared.rows.GameTableRow.{GameTableRow}
 use Rattle.store_tables.specs.declared.rows.ScoreRow.{ScoreRow}
-use Rattle.club_rows.specs.NextScores.{Fit, gains_of, plus_sums, sums_over, sums_found, row_with}
+use Rattle.club_rows.specs.internal.NextScores.{Fit, gains_of, plus_sums, sums_over, sums_found, row_with}
 use Rattle.club_rows.specs.Scores.{Meeting, same_pair, scores_of, score_rows, own_first, own_second, meetings_if}
 use Rattle.club_rows.specs.EachOnce.{AreEachOnce}
-use Rattle.club_audit.specs.Standings.{AreStandings, AreTold, Clears, Tells, some_sums, sums_or_none, without}
-use Rattle.club_rows.specs.Pairs.{firsts_pair, pair_in, seconds_pair, sums_at}
+use Rattle.club_audit.specs.internal.Standings.{AreStandings, AreTold, Clears, Tells, some_sums, sums_or_none, without}
+use Rattle.club_rows.specs.internal.Pairs.{firsts_pair, pair_in, seconds_pair, sums_at}
 use Rattle.club_rows.specs.declared.scores.Pair.{Pair}
 use Rattle.club_rows.specs.declared.scores.OwnScore.{OwnScore}
 use Rattle.club_rows.specs.declared.scores.ScoreSums.{ScoreSums}

@@ -1,7 +1,4 @@
 pub mod Audit
-pub mod ChallengeAudit
-pub mod ChallengeKeys
 pub mod FirstWrong
 pub mod GameAudit
-pub mod SeenAudit
-pub mod Standings
+pub mod internal

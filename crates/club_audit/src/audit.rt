@@ -4,10 +4,11 @@ ghost use Rattle.std.specs.Prelude.{◌≡◌, ◌≢◌, ◌<◌, ◌≤◌, �
 ghost use Rattle.std.specs.Prelude.{string_bytes, Some};
 ghost use Rattle.std.specs.Option.{option_map};
 ghost use Rattle.club_core.specs.LegalState.{HaveUniqueKeysIfAny};
-ghost use Rattle.club_audit.specs.Audit.{AreApartGames, HasPeople, HaveRegister, IsRightInRegister, NamesEvent};
-ghost use Rattle.club_audit.specs.Audit.{NamesPlayers, NamesRule};
-ghost use Rattle.club_audit.specs.FirstWrong.{IsFirstWrong};
-ghost use Rattle.club_audit.specs.GameAudit.{IsRightAt, StandsAt};
+ghost use Rattle.club_audit.specs.internal.Audit.{AreApartGames, HasPeople, HaveRegister, IsRightInRegister};
+ghost use Rattle.club_audit.specs.internal.Audit.{NamesEvent};
+ghost use Rattle.club_audit.specs.internal.Audit.{NamesPlayers, NamesRule};
+ghost use Rattle.club_audit.specs.internal.FirstWrong.{IsFirstWrong};
+ghost use Rattle.club_audit.specs.internal.GameAudit.{IsRightAt, StandsAt};
 ghost use Rattle.club_rows.specs.Club.{ClubState};
 
 use crate::challenges::are_challenges;

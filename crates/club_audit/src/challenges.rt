@@ -4,9 +4,9 @@ ghost use Rattle.std.specs.Prelude.{◌≡◌, ◌<◌, ◌≤◌, List, length,
 ghost use Rattle.club_core.specs.declared.challenges.Challenge as core;
 ghost use Rattle.club_core.specs.LegalState.{Each, HaveUniqueKeys};
 ghost use Rattle.club_requests.specs.Limits.{most_members, most_events};
-ghost use Rattle.club_audit.specs.ChallengeAudit.{AreChallenges, HasItsGame, IsChallengeAmong, IsChallengeOf};
-ghost use Rattle.club_audit.specs.ChallengeAudit.{IsGameAmong, IsRowOfPairing};
-ghost use Rattle.club_audit.specs.ChallengeKeys.{key_in};
+ghost use Rattle.club_audit.specs.internal.ChallengeAudit.{AreChallenges, HasItsGame, IsChallengeAmong, IsChallengeOf};
+ghost use Rattle.club_audit.specs.internal.ChallengeAudit.{IsGameAmong, IsRowOfPairing};
+ghost use Rattle.club_audit.specs.internal.ChallengeKeys.{key_in};
 
 use club_core::{Challenge, ChallengeState, Pairing};
 use club_requests::is_challenge_number;

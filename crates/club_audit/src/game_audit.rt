@@ -4,10 +4,11 @@ ghost use Rattle.std.specs.Prelude.{◌≡◌, None, Some, true, IfOk, IsTrue};
 ghost use Rattle.club_core.specs.Game.{left_of};
 ghost use Rattle.club_core.specs.View.{clocks_in};
 ghost use Rattle.club_requests.specs.Limits.{is_budget, is_increment};
-ghost use Rattle.club_audit.specs.Audit.{IsWithin, IsWithinGiven};
-ghost use Rattle.club_audit.specs.FirstWrong.{IsFirstWrong};
-ghost use Rattle.club_audit.specs.GameAudit.{AreOfEvent, IsRightIn, IsRightInEvent};
-ghost use Rattle.club_rows.specs.Replay.{terms_given};
+ghost use Rattle.club_audit.specs.internal.Audit.{IsWithin, IsWithinGiven};
+ghost use Rattle.club_audit.specs.internal.FirstWrong.{IsFirstWrong};
+ghost use Rattle.club_audit.specs.GameAudit.{IsRightIn};
+ghost use Rattle.club_audit.specs.internal.GameAudit.{AreOfEvent, IsRightInEvent};
+ghost use Rattle.club_rows.specs.internal.Replay.{terms_given};
 
 use crate::people::terms_of;
 use crate::seen_audit::are_seen;

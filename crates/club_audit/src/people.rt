@@ -4,9 +4,11 @@ ghost use Rattle.std.specs.Prelude.{◌≡◌, ◌+◌, ◌<◌, ◌^◌, ℕ, L
 ghost use Rattle.club_core.specs.Members.{Member};
 ghost use Rattle.club_core.specs.Events.{Event};
 ghost use Rattle.club_core.specs.LegalState.{Each};
-ghost use Rattle.club_audit.specs.Audit.{IsOtherMember, IsMemberAt, AreMembers, GivesTerms, IsOtherEvent, IsEventAt};
-ghost use Rattle.club_audit.specs.Audit.{AreEvents, AreRules, IsRuleAt, terms_told};
-ghost use Rattle.club_rows.specs.Replay.{terms_given};
+ghost use Rattle.club_audit.specs.Audit.{GivesTerms};
+ghost use Rattle.club_audit.specs.internal.Audit.{IsOtherMember, IsMemberAt, AreMembers, IsOtherEvent, IsEventAt};
+ghost use Rattle.club_audit.specs.Audit.{terms_told};
+ghost use Rattle.club_audit.specs.internal.Audit.{AreEvents, AreRules, IsRuleAt};
+ghost use Rattle.club_rows.specs.internal.Replay.{terms_given};
 
 use club_requests::values::{MOST_EVENTS, MOST_MEMBERS, is_budget, is_increment};
 use club_requests::{is_member_key, is_name};

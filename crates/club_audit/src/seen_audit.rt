@@ -7,9 +7,9 @@ ghost use Rattle.club_core.specs.Game.{Game};
 ghost use Rattle.store_tables.specs.Cells.{move_cells, seen_cells};
 ghost use Rattle.club_rows.specs.EachOnce.{AreEachOnce};
 ghost use Rattle.club_rows.specs.Seen.{rows_of_texts, seen_rows};
-ghost use Rattle.club_audit.specs.SeenAudit.{AreCounted, HasCounted, found_in, texts_in};
+ghost use Rattle.club_audit.specs.internal.SeenAudit.{AreCounted, HasCounted, found_in, texts_in};
 ghost use Rattle.club_rows.specs.Tables.{move_rows};
-ghost use Rattle.club_rows.specs.Tally.{stood_seldom, stood_then};
+ghost use Rattle.club_rows.specs.internal.Tally.{stood_seldom, stood_then};
 
 use club_rows::tally::Occurrences;
 use club_rules::{Memory, Rules};

@@ -5,14 +5,14 @@ ghost use Rattle.std.specs.Prelude.{length, map, string_bytes};
 ghost use Rattle.std.specs.Option.{option_map};
 ghost use Rattle.squares.specs.declared.sides.Score.{Score};
 ghost use Rattle.squares.specs.Sides.{score_text};
-ghost use Rattle.store_tables.specs.Cells.{score_cells};
+ghost use Rattle.store_tables.specs.internal.Cells.{score_cells};
 ghost use Rattle.club_rows.specs.Club.{ClubState, both_games};
-ghost use Rattle.club_rows.specs.NextScores.{sums_found};
+ghost use Rattle.club_rows.specs.internal.NextScores.{sums_found};
 ghost use Rattle.club_rows.specs.Scores.{Meeting, scores_in};
 ghost use Rattle.club_rows.specs.EachOnce.{AreEachOnce};
-ghost use Rattle.club_audit.specs.Standings.{AreGamesOf, AreStandings, AreTold, Clears, Tells};
-ghost use Rattle.club_audit.specs.Standings.{sums_or_none};
-ghost use Rattle.club_rows.specs.Pairs.{sums_at};
+ghost use Rattle.club_audit.specs.internal.Standings.{AreGamesOf, AreStandings, AreTold, Clears, Tells};
+ghost use Rattle.club_audit.specs.internal.Standings.{sums_or_none};
+ghost use Rattle.club_rows.specs.internal.Pairs.{sums_at};
 
 use club_rows::ends::score_of;
 use club_rows::scores::{

@@ -9,8 +9,9 @@ use Rattle.std.proofs.lemmas.List.Sums.{count_by-le-length}
 use Rattle.cli.specs.declared.words.BadWords.{BadWords}
 use Rattle.cli.specs.declared.words.BadWords.TheVariants as bad
 use Rattle.club_batches.specs.declared.orders.BatchLine.{BatchLine}
-use Rattle.club_batches.specs.Orders.{AreOrders, HasBadLine, IsAdded, IsBadLine, IsErrorWith, IsOrder, Line, SaysOfLine}
-use Rattle.club_batches.specs.Orders.{is_passed_over, order_lines_from}
+use Rattle.club_batches.specs.internal.Orders.{AreOrders, HasBadLine, IsAdded, IsBadLine, IsErrorWith, IsOrder, Line}
+use Rattle.club_batches.specs.internal.Orders.{SaysOfLine}
+use Rattle.club_batches.specs.internal.Orders.{is_passed_over, order_lines_from}
 
 -- the orders of the first lines
 pub record AreRead (all : List (List ℕ)) (count : ℕ) (orders : List BatchLine) : Type 0 where

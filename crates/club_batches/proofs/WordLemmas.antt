@@ -13,7 +13,7 @@ use Rattle.std.proofs.lemmas.List.{nil_from_length}
 use Rattle.std.proofs.lemmas.List.Elements.{All-head, All-tail}
 use Rattle.std.proofs.lemmas.List.Splits.{slice_split-cons_yes, slice_split_at, slice_split_none}
 use Rattle.std.proofs.lemmas.Str.{NoCharPasses-byte}
-use Rattle.club_batches.specs.Orders.{is_word, words_in}
+use Rattle.club_batches.specs.internal.Orders.{is_word, words_in}
 
 -- white space in front of a text
 spaces_passed : (gap text : List ℕ) → AllPass is_ascii_whitespace gap → words_in (gap ++ text) ≡ words_in text

@@ -2,11 +2,13 @@
 
 ghost use Rattle.std.specs.Prelude.{◌≡◌, ◌≤◌, ◌++◌, ◌∷◌, [], true, false, IfErr, IfOk, OnOk, codes, length, map};
 ghost use Rattle.std.specs.Str.{IsUtf8};
-ghost use Rattle.club_batches.specs.Orders.{AreOrders, HasBadLine, IsAdded, IsBadBatch, IsBadLine, IsErrorWith};
-ghost use Rattle.club_batches.specs.Orders.{IsNoOrder, IsOrder, IsParserMessage, SaysOfLine, arguments_in};
-ghost use Rattle.club_batches.specs.Orders.{is_passed_over, line_error, most_bytes, most_orders, no_text_line};
+ghost use Rattle.club_batches.specs.internal.Orders.{AreOrders, HasBadLine, IsAdded, IsBadBatch, IsBadLine};
+ghost use Rattle.club_batches.specs.internal.Orders.{IsErrorWith};
+ghost use Rattle.club_batches.specs.internal.Orders.{IsNoOrder, IsOrder, IsParserMessage, SaysOfLine, arguments_in};
+ghost use Rattle.club_batches.specs.internal.Orders.{is_passed_over, line_error, most_bytes, most_orders};
+ghost use Rattle.club_batches.specs.internal.Orders.{no_text_line};
 ghost use Rattle.std.specs.Str.Lossy.{utf8_valid_len};
-ghost use Rattle.club_batches.specs.Orders.{order_at, order_lines, reads_input};
+ghost use Rattle.club_batches.specs.internal.Orders.{order_at, order_lines, reads_input};
 
 use cli::{BadWords, Batch, BatchOrder, read_line};
 use clocks::Moment;

@@ -10,14 +10,15 @@ use Rattle.club_core.specs.declared.challenges.Challenge.{Challenge}
 use Rattle.club_core.specs.Challenges.{challenge_under}
 use Rattle.club_core.specs.LegalState.{IsLegalChallenge}
 use Rattle.club_laws.proofs.Proved.{le-true, under-each, under-found, under-key}
-use Rattle.club_rows.specs.ChallengeRows.{challenge_key}
+use Rattle.club_rows.specs.internal.ChallengeRows.{challenge_key}
 use Rattle.club_rows.specs.Club.{ClubState, IsClub, tables}
 use Rattle.club_rows.specs.Tables.{challenge_row, game_started, number}
 use Rattle.sqlite.specs.Values.{or_null}
 use Rattle.club_rows.proofs.Proved.{challenge-shown, challenge-not-shown, challenge-told, no-challenge-told}
 use Rattle.club_rows.proofs.Proved.{challenges-alike}
-use Rattle.store_tables.specs.Cells.{IsChallenge, challenge_cells}
-use Rattle.store_tables.specs.Contents.{AreThose}
+use Rattle.store_tables.specs.Cells.{IsChallenge}
+use Rattle.store_tables.specs.internal.Cells.{challenge_cells}
+use Rattle.store_tables.specs.internal.Contents.{AreThose}
 use Rattle.store_tables.specs.declared.rows.ChallengeRow.{ChallengeRow}
 
 -- ---- types

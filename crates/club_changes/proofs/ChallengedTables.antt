@@ -15,7 +15,8 @@ use Rattle.club_requests.specs.declared.refusals.Refusal.{Refusal}
 use Rattle.club_requests.specs.declared.refusals.Refusal.TheVariants.{UnknownChallenge}
 use Rattle.club_requests.specs.declared.requests.Caller.{Caller}
 use Rattle.club_requests.specs.declared.requests.Caller.TheVariants.{Officer, Member}
-use Rattle.club_core.specs.Answer.{challenge_outcome_of, reply_of}
+use Rattle.club_core.specs.Answer.{reply_of}
+use Rattle.club_core.specs.internal.Answer.{challenge_outcome_of}
 use Rattle.club_core.specs.Challenges.{pairing_for, answer_step, answers, answer_refusal, repeat_of_answer}
 use Rattle.club_core.specs.Events.{Event}
 use Rattle.club_requests.specs.Outcome.{Outcome, Reply, accepted, repeated, refused, map_outcome, by_member, unless}
@@ -29,8 +30,8 @@ use Rattle.club_rows.proofs.Proved.{challenge-put, scores_seated, seen-added}
 use Rattle.store_tables.proofs.Proved.{altered}
 use Rattle.store_tables.specs.declared.rows.Changes.{Changes}
 use Rattle.club_changes.specs.declared.decided.CommandEffect.{CommandEffect}
-use Rattle.club_changes.specs.Challenged.{PutsBegun, AnswersTo, standing_after, begun_games, begun_seen}
-use Rattle.club_changes.specs.Steps.{Puts, PutRows, IsDecided, started, started_seen, started_scores, no_rows}
+use Rattle.club_changes.specs.internal.Challenged.{PutsBegun, AnswersTo, standing_after, begun_games, begun_seen}
+use Rattle.club_changes.specs.internal.Steps.{Puts, PutRows, IsDecided, started, started_seen, started_scores, no_rows}
 use Rattle.club_changes.proofs.NextRows.{no_moves, first_of_game}
 use Rattle.club_changes.proofs.OutcomeLemmas.{all_decided, none_decided, moment_put}
 use Rattle.club_changes.proofs.PutSame.{◌&◌, if_same, same_itself, same_by, row_added, nothing_added}

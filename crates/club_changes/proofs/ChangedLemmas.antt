@@ -3,14 +3,15 @@ use Rattle.std.proofs.Common.{◌≡◌, ◌==◌, ℕ, List, [], ◌∷◌, Opt
 use Rattle.std.specs.Prelude.{if◌then◌else◌}
 use Rattle.std.specs.Option.{option_map}
 use Rattle.sqlite.specs.Order.{Row}
-use Rattle.store_tables.specs.Cells.{meta_cells}
-use Rattle.store_tables.specs.Changes.{put_rows}
-use Rattle.store_tables.specs.Contents.{Content, put_in, put_each}
+use Rattle.store_tables.specs.internal.Cells.{meta_cells}
+use Rattle.store_tables.specs.internal.Changes.{put_rows}
+use Rattle.store_tables.specs.Contents.{Content}
+use Rattle.store_tables.specs.internal.Contents.{put_in, put_each}
 use Rattle.store_tables.specs.declared.rows.MetaRow.{MetaRow}
 use Rattle.store_tables.specs.declared.rows.Changes.{Changes}
-use Rattle.store_tables.specs.Changed.{changed, put_maybe}
+use Rattle.store_tables.specs.internal.Changed.{changed, put_maybe}
 use Rattle.store_tables.proofs.Proved.{each_at}
-use Rattle.club_changes.specs.Steps.{AreSame, Puts, PutRows}
+use Rattle.club_changes.specs.internal.Steps.{AreSame, Puts, PutRows}
 use Rattle.club_rows.specs.Tables.{meta_row}
 
 -- the content with these rows put into one table, of which there may be none

@@ -23,22 +23,25 @@ use Rattle.club_core.specs.State.{seated, seated_as, state_after, place, kind_at
 use Rattle.club_core.specs.State.{on_game}
 use Rattle.club_core.specs.View.{IsRowOf}
 use Rattle.club_laws.proofs.Proved.{in-place}
-use Rattle.club_rows.specs.Made.{made_row}
+use Rattle.club_rows.specs.internal.Made.{made_row}
 use Rattle.club_rows.specs.Scores.{Meeting, meetings_in, scores_in}
 use Rattle.club_rows.specs.Tables.{game_row, move_rows, number, row_of_game, rows_of_moves, rows_of_seen}
 use Rattle.club_rows.proofs.Proved.{Kind, met_running, met_ended, scores_next, scores_stay, entry-alters, seen-stay}
 use Rattle.club_rows.proofs.Proved.{seen-table-set}
-use Rattle.store_tables.specs.Cells.{game_cells, score_cells}
+use Rattle.store_tables.specs.Cells.{game_cells}
+use Rattle.store_tables.specs.internal.Cells.{score_cells}
 use Rattle.store_tables.specs.declared.rows.GameTableRow.{GameTableRow}
 use Rattle.store_tables.specs.declared.rows.Changes.{Changes}
 use Rattle.club_changes.specs.declared.decided.CommandEffect.{CommandEffect}
 use Rattle.club_rows.specs.Club.{both_games, ClubState, IsClub, tables}
 use Rattle.sqlite.specs.Order.{Row}
-use Rattle.store_tables.specs.Changed.{changed}
-use Rattle.club_changes.specs.Steps.{caller_step, AreSame, HaveSame, Puts, PutsScoresOf, PutsMove, PutsRow, PutsGame}
-use Rattle.club_changes.specs.Steps.{no_rows, IsDecided, IsDecidedIn, changed_if, first_row, first_seen_rows, started}
-use Rattle.club_changes.specs.Steps.{started_seen}
-use Rattle.store_tables.specs.Changes.{put_rows}
+use Rattle.store_tables.specs.internal.Changed.{changed}
+use Rattle.club_changes.specs.Steps.{HaveSame}
+use Rattle.club_changes.specs.internal.Steps.{caller_step, AreSame, Puts, PutsScoresOf, PutsMove, PutsRow, PutsGame}
+use Rattle.club_changes.specs.internal.Steps.{no_rows, IsDecided, IsDecidedIn, changed_if, first_row, first_seen_rows}
+use Rattle.club_changes.specs.internal.Steps.{started}
+use Rattle.club_changes.specs.internal.Steps.{started_seen}
+use Rattle.store_tables.specs.internal.Changes.{put_rows}
 use Rattle.store_tables.proofs.Proved.{altered}
 use Rattle.club_changes.proofs.PutSame.{◌&◌, same_by, same_itself, one_row_more, row_replaced, rows_kept}
 use Rattle.club_changes.proofs.NextRows.{fresh, first_of_game}

@@ -17,14 +17,14 @@ use Rattle.club_core.specs.Events.{Terms}
 use Rattle.club_core.specs.Game.{Game}
 use Rattle.club_core.specs.State.{place, terms_at}
 use Rattle.club_rows.specs.Club.{ClubGame, both_games, ClubState, tables}
-use Rattle.club_rows.specs.RowView.{row_at, AreRowsAt}
+use Rattle.club_rows.specs.internal.RowView.{row_at, AreRowsAt}
 use Rattle.club_rows.specs.declared.row_view.PlyRows.{PlyRows}
 use Rattle.club_rows.specs.Tables.{number, move_rows, rows_of_moves, at_start}
 use Rattle.club_rows.proofs.Proved.{Kind, same-numbers, rows-count}
 use Rattle.store_tables.specs.Cells.{move_cells}
 use Rattle.store_tables.specs.Content.{same_key}
 use Rattle.store_tables.proofs.Proved.{equal_from}
-use Rattle.club_changes.specs.Steps.{FindsMoveRows}
+use Rattle.club_changes.specs.internal.Steps.{FindsMoveRows}
 use Rattle.club_changes.proofs.PutSame.{gathered_had, gathered_has, had_at, number_same, numbers_same}
 use Rattle.club_changes.proofs.NextRows.{entry_rows_at, moves_had}
 use Rattle.club_changes.proofs.ClubPlayed.{place_at}

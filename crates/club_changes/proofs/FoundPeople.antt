@@ -23,10 +23,10 @@ use Rattle.club_requests.specs.declared.requests.Caller.TheVariants as caller
 use Rattle.club_laws.proofs.Proved.{bytes_eq-same, same-bytes_eq, find_id-found, find_id-none}
 use Rattle.club_rows.specs.Club.{ClubState, IsClub, tables}
 use Rattle.club_rows.specs.Tables.{numbered_from, number, member_row, event_row, rule_row}
-use Rattle.store_tables.specs.Cells.{member_cells}
+use Rattle.store_tables.specs.internal.Cells.{member_cells}
 use Rattle.store_tables.specs.declared.rows.MemberRow.{MemberRow}
 use Rattle.store_tables.specs.Content.{same_key}
-use Rattle.store_tables.specs.Contents.{AreThose}
+use Rattle.store_tables.specs.internal.Contents.{AreThose}
 use Rattle.store_tables.proofs.Proved.{equal_cmp, equal_from}
 use Rattle.club_changes.proofs.PutSame.{numbered_had, numbered_has, ids_agree, ids_same}
 use Rattle.club_changes.proofs.ClubPlayed.{place_at}

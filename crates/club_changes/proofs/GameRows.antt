@@ -18,7 +18,7 @@ use Rattle.club_core.specs.LegalState.{IsLegalIn}
 use Rattle.club_core.specs.Step.{GameCommand, game_step}
 use Rattle.club_requests.specs.declared.requests.Caller.{Caller}
 use Rattle.club_laws.proofs.Proved.{in-place}
-use Rattle.club_rows.specs.Replay.{terms_given}
+use Rattle.club_rows.specs.internal.Replay.{terms_given}
 use Rattle.club_requests.specs.Limits.{last_moment}
 use Rattle.club_core.specs.State as club
 use Rattle.club_core.specs.State.{place, terms_at, key_of, is_key, has_key, at_found, any_under, keyed_at, keyed_game}
@@ -26,13 +26,15 @@ use Rattle.club_core.specs.State.{game_under, pairing_of, on_game}
 use Rattle.club_rows.proofs.Proved.{Kind, seen-found}
 use Rattle.club_rows.specs.Tables.{number}
 use Rattle.store_tables.specs.Cells.{game_cells}
-use Rattle.store_tables.specs.Contents.{AreThose}
+use Rattle.store_tables.specs.internal.Contents.{AreThose}
 use Rattle.store_tables.specs.declared.rows.GameTableRow.{GameTableRow}
 use Rattle.club_rows.specs.Club.{ClubGame, both_games, ClubState, IsClub, tables}
 use Rattle.club_changes.specs.declared.decided.CommandEffect.{CommandEffect}
 use Rattle.club_changes.specs.declared.stored.StoredGame.{StoredGame}
-use Rattle.club_changes.specs.Steps.{caller_step, game_in, FindsMoveRows, FindsSeenRows, IsRecordOf, IsDecided, IsDecidedIn}
-use Rattle.club_changes.specs.Stored.{IsStoredGame}
+use Rattle.club_changes.specs.Steps.{IsRecordOf}
+use Rattle.club_changes.specs.internal.Steps.{caller_step, game_in, FindsMoveRows, FindsSeenRows, IsDecided}
+use Rattle.club_changes.specs.internal.Steps.{IsDecidedIn}
+use Rattle.club_changes.specs.internal.Stored.{IsStoredGame}
 use Rattle.club_changes.proofs.NextRows.{first_of_game}
 use Rattle.club_changes.proofs.FoundMoves.{tells_moves}
 use Rattle.club_changes.proofs.FoundPeople.{AreKeyed, one_found, none_found, id_found, id_missing, no_place}

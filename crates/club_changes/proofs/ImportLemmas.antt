@@ -20,7 +20,8 @@ use Rattle.club_core.specs.declared.members.Member as given_member
 use Rattle.club_requests.specs.declared.refusals.Refusal.{Refusal}
 use Rattle.club_requests.specs.declared.requests.Caller.{Caller}
 use Rattle.club_requests.specs.declared.requests.Caller.TheVariants.{Officer, Member}
-use Rattle.club_core.specs.Answer.{members_of, event_of, events_of, outcome_of, answered}
+use Rattle.club_core.specs.Answer.{outcome_of, answered}
+use Rattle.club_core.specs.internal.Answer.{members_of, event_of, events_of}
 use Rattle.club_core.specs.Events.{Terms, Event, event_kind, event_declares, has_event_name}
 use Rattle.club_core.specs.Game.{Game}
 use Rattle.club_core.specs.Imports.{Import, Imported, imported, has_part, reading_of_import, repeat_of_import, read_in}
@@ -41,17 +42,18 @@ use Rattle.club_rows.specs.Seen.{seen_rows}
 use Rattle.club_rows.specs.Tables.{number, game_row, move_rows, rows_of_moves}
 use Rattle.club_rows.proofs.Proved.{Kind, event_in, in_draughts, in_shogi, met_ended, scores_added}
 use Rattle.club_changes.proofs.SeenTexts.{drop-mapped}
-use Rattle.club_changes.specs.NewGames.{AreNewRows}
+use Rattle.club_changes.specs.internal.NewGames.{AreNewRows}
 use Rattle.club_changes.specs.declared.imported.added.NewRows.{NewRows}
 use Rattle.store_tables.specs.Cells.{game_cells, move_cells, seen_cells}
-use Rattle.store_tables.specs.Changed.{changed}
+use Rattle.store_tables.specs.internal.Changed.{changed}
 use Rattle.store_tables.specs.declared.rows.Changes.{Changes}
 use Rattle.club_changes.specs.declared.decided.CommandEffect.{CommandEffect}
 use Rattle.club_changes.specs.declared.stored.StoredGame.{StoredGame}
 use Rattle.club_changes.specs.declared.imports.ImportContext.{ImportContext}
-use Rattle.club_changes.specs.Importing.{TellsLine, IsUnder, IsKnown, IsOfKind, imported_by, PutsNewGame, PutsImport}
-use Rattle.club_changes.specs.Importing.{IsImportedIn}
-use Rattle.club_changes.specs.Steps.{AreSame, Puts, caller_step, IsDecided, changed_if, no_rows}
+use Rattle.club_changes.specs.internal.Importing.{TellsLine, IsUnder, IsKnown, IsOfKind, imported_by, PutsNewGame}
+use Rattle.club_changes.specs.internal.Importing.{PutsImport}
+use Rattle.club_changes.specs.internal.Importing.{IsImportedIn}
+use Rattle.club_changes.specs.internal.Steps.{AreSame, Puts, caller_step, IsDecided, changed_if, no_rows}
 use Rattle.club_changes.proofs.FoundMoves.{of_game, in_table, id_of}
 use Rattle.club_changes.proofs.GameRows.{stored_as}
 use Rattle.club_changes.proofs.ImportedTables.{game_more}

@@ -11,12 +11,12 @@ use Rattle.club_rows.specs.Club.{ClubGame, ClubState, both_games, tables}
 use Rattle.club_rows.specs.Tables.{move_rows, row_of_game, rows_of_moves, rows_of_seen}
 use Rattle.club_rows.specs.Scores.{scores_in}
 use Rattle.club_rows.proofs.Proved.{gathered-added, seen-added}
-use Rattle.store_tables.specs.Changed.{changed}
-use Rattle.store_tables.specs.Changes.{Alters}
+use Rattle.store_tables.specs.internal.Changed.{changed}
+use Rattle.store_tables.specs.internal.Changes.{Alters}
 use Rattle.store_tables.specs.Content.{same_key}
 use Rattle.store_tables.specs.declared.rows.Changes.{Changes}
 use Rattle.store_tables.proofs.Proved.{altered}
-use Rattle.club_changes.specs.Steps.{AreSame, Puts, no_rows}
+use Rattle.club_changes.specs.internal.Steps.{AreSame, Puts, no_rows}
 use Rattle.club_changes.proofs.ChangedLemmas.{all_changed}
 use Rattle.club_changes.proofs.NextRows.{move_rows_had, first_of_game, moves_had}
 use Rattle.club_changes.proofs.OutcomeLemmas.{moment_put}

@@ -20,11 +20,11 @@ use Rattle.club_core.specs.Game.{score_with}
 use Rattle.club_core.specs.State.{draughts, shogi, place, terms_at, is_late_any, swept_any}
 use Rattle.club_core.specs.Step.{is_late, ended, swept}
 use Rattle.club_core.proofs.Proved.{AreRules, not-some, no-rule-end, turn-of-game, score-none}
-use Rattle.club_games.specs.DraughtsLaws.{draughts-numbers_are_few}
-use Rattle.club_games.specs.ShogiLaws.{shogi-numbers_are_few}
+use Rattle.club_games.specs.internal.DraughtsLaws.{draughts-numbers_are_few}
+use Rattle.club_games.specs.internal.ShogiLaws.{shogi-numbers_are_few}
 use Rattle.club_rows.specs.Club.{ClubGame, ClubState, IsClub, both_games}
-use Rattle.club_rows.specs.Columns.{Columns, IsReadAs, columns_of, stored_cells}
-use Rattle.club_rows.specs.LegalRows.{IsRecordOf}
+use Rattle.club_rows.specs.internal.Columns.{Columns, IsReadAs, columns_of, stored_cells}
+use Rattle.club_rows.specs.internal.LegalRows.{IsRecordOf}
 use Rattle.club_rows.specs.Scores.{Meeting, meetings, meetings_of, meetings_in}
 use Rattle.club_rows.specs.Tables.{end_name_text, game_row}
 use Rattle.club_rows.specs.Tables.{row_of_game, rows_of_moves, rows_of_seen, gathered_from}
@@ -32,9 +32,9 @@ use Rattle.club_rows.proofs.Proved.{columns-are, draughts_laws, in_draughts, in_
 use Rattle.club_rows.proofs.Proved.{none-read, shogi_laws}
 use Rattle.store_tables.specs.Cells.{game_cells}
 use Rattle.store_tables.specs.declared.rows.GameTableRow.{GameTableRow}
-use Rattle.club_changes.specs.Ended.{cells_lost}
-use Rattle.club_changes.specs.Late.{late_side}
-use Rattle.club_changes.specs.Swept.{LeavesOthers}
+use Rattle.club_changes.specs.internal.Ended.{cells_lost}
+use Rattle.club_changes.specs.internal.Late.{late_side}
+use Rattle.club_changes.specs.internal.Swept.{LeavesOthers}
 use Rattle.club_changes.proofs.GameRows.{is_record}
 use Rattle.club_changes.proofs.PlayedLemmas.{rows_stay}
 use Rattle.club_changes.proofs.PutSame.{if_same}

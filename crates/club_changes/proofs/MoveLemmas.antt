@@ -16,13 +16,13 @@ use Rattle.club_core.specs.Imports.{imported}
 use Rattle.club_core.specs.declared.seats.Pairing.{Pairing}
 use Rattle.club_core.proofs.Proved.{AreRules, clocks-played, last-played}
 use Rattle.club_laws.proofs.Proved.{made-again}
-use Rattle.club_imports.specs.OneMoment.{clocks_with}
+use Rattle.club_imports.specs.internal.OneMoment.{clocks_with}
 use Rattle.club_rules.specs.Records.{Recorded}
-use Rattle.club_rows.specs.Replay.{game_from}
+use Rattle.club_rows.specs.internal.Replay.{game_from}
 use Rattle.club_rows.specs.Seen.{rows_of_texts, seen_rows}
 use Rattle.club_rows.specs.Tables.{number, entry_row, move_rows, with_entry}
 use Rattle.club_rows.proofs.Proved.{IsLegalLine-take, rows-append, rows-alike}
-use Rattle.club_changes.specs.AtOnce.{entries_at_once, rows_at_once}
+use Rattle.club_changes.specs.internal.AtOnce.{entries_at_once, rows_at_once}
 
 module _ {P M E T : Type 0} (rules : GameRules P M E T) (ms : List M) (i : ℕ) (m : M) (within : i < length ms)
     (is : m ≡ get_or ms i m) where

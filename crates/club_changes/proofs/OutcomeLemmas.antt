@@ -30,12 +30,14 @@ use Rattle.club_rows.specs.Tables.{member_row, event_row, rule_row, row_of_game,
 use Rattle.store_tables.specs.declared.rows.Changes.{Changes}
 use Rattle.club_changes.specs.declared.decided.CommandEffect.{CommandEffect}
 use Rattle.club_rows.specs.Club.{both_games, ClubGame, ClubState, IsClub, tables}
-use Rattle.club_changes.specs.Steps.{request, club_step, caller_step, started, started_seen, started_scores, AreSame}
-use Rattle.club_changes.specs.Steps.{HaveSame, Puts, PutRows, no_rows, IsDecided, changed_if}
+use Rattle.club_changes.specs.Steps.{request, club_step}
+use Rattle.club_changes.specs.internal.Steps.{caller_step, started, started_seen, started_scores, AreSame}
+use Rattle.club_changes.specs.Steps.{HaveSame}
+use Rattle.club_changes.specs.internal.Steps.{Puts, PutRows, no_rows, IsDecided, changed_if}
 use Rattle.club_rows.proofs.Proved.{scores_seated, seen-added}
 use Rattle.store_tables.proofs.Proved.{altered}
-use Rattle.store_tables.specs.Changed.{changed}
-use Rattle.store_tables.specs.Content.{put}
+use Rattle.store_tables.specs.internal.Changed.{changed}
+use Rattle.store_tables.specs.internal.Content.{put}
 use Rattle.club_changes.proofs.PutSame.{◌&◌, same_itself, same_by, one_replaced, row_added, nothing_added}
 use Rattle.club_changes.proofs.PutSame.{numbered_alike, gathered_alike}
 use Rattle.club_changes.proofs.NextRows.{first_of_game, rows_before, no_moves}

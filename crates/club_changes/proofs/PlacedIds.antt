@@ -17,7 +17,7 @@ use Rattle.sqlite_rules.specs.Lists.{Has}
 use Rattle.club_laws.proofs.Proved.{map-at, map-got}
 use Rattle.club_rows.specs.Tables.{number, numbered_from, gathered_from}
 use Rattle.club_rows.proofs.Proved.{gathered-had, gathered-has}
-use Rattle.store_tables.specs.Changes.{Alters}
+use Rattle.store_tables.specs.internal.Changes.{Alters}
 use Rattle.store_tables.specs.Content.{same_key}
 use Rattle.store_tables.proofs.Proved.{equal_ints, equal_from}
 

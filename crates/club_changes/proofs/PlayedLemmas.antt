@@ -42,21 +42,24 @@ use Rattle.club_core.specs.Step.{move_at, checked}
 use Rattle.club_core.specs.Step.{game_step, reply_of_move, move_tests, offer_tests, accept_tests, resign_tests}
 use Rattle.club_core.specs.Step.{claim_tests, repeat_of_declare, declare_tests}
 use Rattle.club_core.specs.declared.settling.Settled.{Settled}
-use Rattle.club_core.specs.View.{concluded, HasMade, IsConcluded, IsMade, IsRowOf, RepetitionIfMoved}
+use Rattle.club_core.specs.View.{IsRowOf}
+use Rattle.club_core.specs.internal.View.{concluded, HasMade, IsConcluded, IsMade, RepetitionIfMoved}
 use Rattle.club_core.proofs.Proved.{AreRules, checked-legal, none-holds, reply-played, moves_of-played, made-played}
 use Rattle.club_rows.specs.Tables.{game_row, move_rows, entry_rows, with_entry, at_start}
 use Rattle.club_rows.proofs.Proved.{made-last, rows-alike, seen-row-stays, spend-since, is_some-none}
 use Rattle.store_tables.specs.declared.rows.Changes.{Changes}
 use Rattle.club_changes.specs.declared.decided.CommandEffect.{CommandEffect}
 use Rattle.sqlite.specs.Order.{Row}
-use Rattle.store_tables.specs.Changed.{changed}
+use Rattle.store_tables.specs.internal.Changed.{changed}
 use Rattle.club_changes.specs.declared.game.DerivedRows.{DerivedRows}
-use Rattle.club_changes.specs.Steps.{Puts, PutRows, PutsScoresOf, PutsMove, PutsRow, no_rows, HasSeen, IsSeenAfter}
-use Rattle.club_changes.specs.Steps.{HasTwoPlayers, AreScoresAfter, answered_rows, left_answered, seen_list, score_list}
-use Rattle.club_changes.specs.Steps.{IsDecidedIn}
+use Rattle.club_changes.specs.internal.Steps.{Puts, PutRows, PutsScoresOf, PutsMove, PutsRow, no_rows, HasSeen}
+use Rattle.club_changes.specs.internal.Steps.{IsSeenAfter}
+use Rattle.club_changes.specs.internal.Steps.{HasTwoPlayers, AreScoresAfter, answered_rows, left_answered, seen_list}
+use Rattle.club_changes.specs.internal.Steps.{score_list}
+use Rattle.club_changes.specs.internal.Steps.{IsDecidedIn}
 use Rattle.store_tables.specs.Cells.{seen_cells}
 use Rattle.store_tables.specs.declared.rows.SeenRow.{SeenRow}
-use Rattle.club_rows.specs.Seen.{IsSeenRow}
+use Rattle.club_rows.specs.internal.Seen.{IsSeenRow}
 
 -- ---- what a command does
 

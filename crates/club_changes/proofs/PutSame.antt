@@ -11,7 +11,8 @@ use Rattle.sqlite_rules.proofs.ListLemmas.{has_either, has_left, has_right}
 use Rattle.club_laws.proofs.Proved.{got-append, got-set, set-got, get-append, at-last, put-at}
 use Rattle.club_rows.specs.Tables.{number, numbered_from, gathered_from}
 pub use Rattle.club_rows.proofs.Proved.{gathered-had as gathered_had, gathered-has as gathered_has}
-use Rattle.store_tables.specs.Content.{same_key, put}
+use Rattle.store_tables.specs.Content.{same_key}
+use Rattle.store_tables.specs.internal.Content.{put}
 pub use Rattle.store_tables.proofs.Proved.{same_itself, same_by, put_had, put_kept}
 pub use Rattle.club_changes.proofs.PlacedRows.{same_list, AreAtPlaces, one_line}
 pub use Rattle.club_changes.proofs.PlacedIds.{pos_same, number_same, ids_agree, ids_same, numbers_same}

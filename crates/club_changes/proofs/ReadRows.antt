@@ -10,15 +10,15 @@ use Rattle.sqlite_rules.specs.Lists.{Has}
 use Rattle.sqlite_rules.proofs.ListLemmas.{has_got}
 use Rattle.std.proofs.lemmas.Option.{same_Some}
 use Rattle.club_core.specs.declared.members.Member as given_member
-use Rattle.club_core.specs.Answer.{member_of}
+use Rattle.club_core.specs.internal.Answer.{member_of}
 use Rattle.club_core.specs.Members.{Member}
 use Rattle.club_core.specs.State.{place}
 use Rattle.club_laws.proofs.Proved.{map-at}
 use Rattle.club_rows.specs.Tables.{numbered_from, member_row}
-use Rattle.store_tables.specs.Cells.{member_cells, score_cells}
-use Rattle.store_tables.specs.Contents.{AreThose}
+use Rattle.store_tables.specs.internal.Cells.{member_cells, score_cells}
+use Rattle.store_tables.specs.internal.Contents.{AreThose}
 use Rattle.store_tables.specs.declared.rows.ScoreRow.{ScoreRow}
-use Rattle.club_rows.specs.NextScores.{IsFound, pair_of, pair_cells}
+use Rattle.club_rows.specs.internal.NextScores.{IsFound, pair_of, pair_cells}
 use Rattle.club_rows.proofs.Proved.{found_none, found_some}
 use Rattle.store_tables.specs.declared.rows.MemberRow.{MemberRow}
 use Rattle.club_changes.proofs.PutSame.{numbered_at, numbered_length, at_get, take_next}

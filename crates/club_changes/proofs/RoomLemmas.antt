@@ -6,7 +6,7 @@ use Rattle.squares.specs.declared.sides.Side.{Side}
 use Rattle.squares.specs.declared.sides.Side.TheVariants.{First, Second}
 use Rattle.club_requests.specs.Limits.{is_budget, is_increment}
 use Rattle.club_core.specs.Game.{Clocks, spend, left_of}
-use Rattle.club_imports.specs.OneMoment.{clocks_with}
+use Rattle.club_imports.specs.internal.OneMoment.{clocks_with}
 -- the seconds of each player fit the tables
 pub use Rattle.club_laws.proofs.Proved.{room-for as room_for}
 

@@ -12,7 +12,7 @@ use Rattle.club_rules.specs.GameRules.{GameRules}
 use Rattle.club_rules.specs.Line.{position_after, positions}
 use Rattle.club_rows.specs.Seen.{times_in, stood_before, seen_row, rows_from}
 use Rattle.club_rows.proofs.Proved.{positions-append}
-use Rattle.club_changes.specs.MoveTexts.{bytes_of}
+use Rattle.club_changes.specs.internal.MoveTexts.{bytes_of}
 use Rattle.club_changes.proofs.MoveLemmas.{one-more}
 
 -- the elements from a place on are the one there and the others

@@ -11,19 +11,20 @@ use Rattle.sqlite.specs.Order.{Row}
 use Rattle.sqlite_rules.specs.Lists.{Has}
 use Rattle.sqlite_rules.proofs.ListLemmas.{has_either, has_left, has_right}
 use Rattle.squares.specs.declared.sides.Score.{Score}
-use Rattle.store_tables.specs.Cells.{score_cells}
+use Rattle.store_tables.specs.internal.Cells.{score_cells}
 use Rattle.store_tables.specs.Changes.{HaveSame}
-use Rattle.store_tables.specs.Content.{same_key, put}
+use Rattle.store_tables.specs.Content.{same_key}
+use Rattle.store_tables.specs.internal.Content.{put}
 use Rattle.store_tables.specs.declared.rows.ScoreRow.{ScoreRow}
 use Rattle.store_tables.proofs.Proved.{put_had, put_kept, altered}
-use Rattle.club_rows.specs.NextScores.{AreNext, IsFound, pair_of, pair_cells, row_with, sums_found}
+use Rattle.club_rows.specs.internal.NextScores.{AreNext, IsFound, pair_of, pair_cells, row_with, sums_found}
 use Rattle.club_rows.specs.Scores.{Meeting, meetings, same_pair, score_rows}
 use Rattle.club_rows.specs.declared.scores.Pair.{Pair}
 use Rattle.club_rows.specs.declared.scores.ScoreRows.{ScoreRows}
 use Rattle.club_rows.specs.declared.scores.ScoreSums.{ScoreSums}
 use Rattle.club_rows.proofs.Proved.{pair_key, pair_same, pair_itself, keys_same, keys_agree, rows_alter}
-use Rattle.club_changes.specs.Standing.{AreStanding, PutsRows}
-use Rattle.club_rows.specs.Pairs.{pair_in}
+use Rattle.club_changes.specs.internal.Standing.{AreStanding, PutsRows}
+use Rattle.club_rows.specs.internal.Pairs.{pair_in}
 use Rattle.club_changes.proofs.PlacedIds.{take_next}
 
 -- ---- keys

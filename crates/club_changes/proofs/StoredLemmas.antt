@@ -4,7 +4,8 @@ use Rattle.std.proofs.Math.Seq.{take-length}
 use Rattle.club_rules.specs.GameRules.{GameRules}
 use Rattle.club_core.specs.Events.{Terms}
 use Rattle.club_core.specs.Game.{Game, moves_of}
-use Rattle.club_rows.specs.Replay.{IsPlayedAs, WasReplayed, game_from}
+use Rattle.club_rows.specs.Replay.{IsPlayedAs}
+use Rattle.club_rows.specs.internal.Replay.{WasReplayed, game_from}
 use Rattle.club_rows.specs.Tables.{move_rows}
 use Rattle.club_rows.specs.declared.replay.Replayed.{Replayed}
 use Rattle.club_rows.proofs.Proved.{played-count}

@@ -13,23 +13,25 @@ use Rattle.sqlite.specs.Order.{Row}
 use Rattle.squares.specs.declared.sides.Score.{Score}
 use Rattle.squares.specs.declared.sides.Side.{Side}
 use Rattle.squares.specs.Sides.{loses}
-use Rattle.store_tables.specs.Cells.{game_cells, score_cells}
-use Rattle.store_tables.specs.Changes.{HaveSame, put_rows}
-use Rattle.store_tables.specs.Content.{put}
+use Rattle.store_tables.specs.Cells.{game_cells}
+use Rattle.store_tables.specs.internal.Cells.{score_cells}
+use Rattle.store_tables.specs.Changes.{HaveSame}
+use Rattle.store_tables.specs.internal.Changes.{put_rows}
+use Rattle.store_tables.specs.internal.Content.{put}
 use Rattle.store_tables.specs.declared.rows.GameTableRow.{GameTableRow}
 use Rattle.store_tables.specs.declared.rows.ScoreRow.{ScoreRow}
 use Rattle.store_tables.proofs.Proved.{same_then, put_had, put_kept, altered}
 use Rattle.club_core.specs.State.{place, is_late_any, swept_any}
 use Rattle.club_rows.specs.Club.{ClubGame, ClubState, IsClub, both_games, tables}
-use Rattle.club_rows.specs.Columns.{Columns, IsReadAs, stored_cells}
+use Rattle.club_rows.specs.internal.Columns.{Columns, IsReadAs, stored_cells}
 use Rattle.club_rows.specs.Scores.{Meeting, meetings, meetings_in, score_rows, scores_in}
 use Rattle.club_rows.specs.Tables.{gathered_from, row_of_game}
 use Rattle.club_rows.specs.declared.scores.Pair.{Pair}
 use Rattle.club_rows.specs.declared.scores.ScoreSums.{ScoreSums}
-use Rattle.club_changes.specs.Ended.{cells_lost}
-use Rattle.club_changes.specs.Late.{late_side}
-use Rattle.club_changes.specs.Standing.{AreStanding, PutsRows}
-use Rattle.club_changes.specs.Swept.{IsSwept}
+use Rattle.club_changes.specs.internal.Ended.{cells_lost}
+use Rattle.club_changes.specs.internal.Late.{late_side}
+use Rattle.club_changes.specs.internal.Standing.{AreStanding, PutsRows}
+use Rattle.club_changes.specs.internal.Swept.{IsSwept}
 use Rattle.club_changes.specs.declared.swept.rows.SweptRows.{SweptRows}
 use Rattle.club_changes.proofs.FewLemmas.{meets_few, parts_length}
 use Rattle.club_changes.proofs.FoundPeople.{place_next}

@@ -1,6 +1,7 @@
 -- The tables of a club after a sweep.
 use Rattle.std.proofs.Common.{◌≡◌, ℕ, map, Some, None, refl, ap, sym}
-use Rattle.store_tables.specs.Cells.{game_cells, score_cells}
+use Rattle.store_tables.specs.Cells.{game_cells}
+use Rattle.store_tables.specs.internal.Cells.{score_cells}
 use Rattle.store_tables.specs.declared.rows.Changes.{Changes}
 use Rattle.club_requests.specs.declared.answers.Answer.TheVariants as answer_is
 use Rattle.club_requests.specs.declared.answers.Outcome.TheVariants as given_is
@@ -10,11 +11,11 @@ use Rattle.club_requests.specs.declared.requests.Caller.TheVariants.{Officer, Me
 use Rattle.club_core.specs.Answer.{outcome_of}
 use Rattle.club_core.specs.State.{sweep, with_swept}
 use Rattle.club_rows.specs.Club.{both_games, ClubState}
-use Rattle.club_changes.specs.Swept.{IsSwept, LeavesOthers}
+use Rattle.club_changes.specs.internal.Swept.{IsSwept, LeavesOthers}
 use Rattle.club_changes.specs.declared.swept.rows.SweptRows.{SweptRows}
 use Rattle.club_changes.proofs.LateGames.{leaves_others}
 use Rattle.club_changes.specs.declared.decided.CommandEffect.{CommandEffect}
-use Rattle.club_changes.specs.Steps.{Puts, caller_step, IsDecided, no_rows}
+use Rattle.club_changes.specs.internal.Steps.{Puts, caller_step, IsDecided, no_rows}
 use Rattle.club_changes.proofs.OutcomeLemmas.{all_decided, moment_put, none_decided}
 use Rattle.club_changes.proofs.PutSame.{◌&◌, same_by}
 

@@ -2,16 +2,16 @@
 
 ghost use Rattle.std.specs.Prelude.{◌≡◌, ◌<◌, ℕ, Bool, List, [], ◌∷◌, length, Some, None, IfOk, IsErrOf};
 ghost use Rattle.sqlite.specs.Order.{Row};
-ghost use Rattle.club_core.specs.Answer.{events_of, challenge_outcome_of};
+ghost use Rattle.club_core.specs.internal.Answer.{events_of, challenge_outcome_of};
 ghost use Rattle.club_core.specs.Challenges.{pairing_for};
 ghost use Rattle.club_core.specs.LegalState.{Each, IsLegalEvent};
 ghost use Rattle.club_requests.specs.Outcome.{map_outcome};
 ghost use Rattle.club_core.specs.State.{place, with_challenge, with_answer};
 ghost use Rattle.club_rows.specs.Club.{ClubState, IsClub};
 ghost use Rattle.club_rows.specs.Tables.{challenge_row};
-ghost use Rattle.club_changes.specs.Challenged.{PutsBegun, AnswersTo, HasNoEvent};
-ghost use Rattle.club_changes.specs.Steps.{Puts, IsDecided, no_rows};
-ghost use Rattle.club_changes.specs.Whole.{IsWhole};
+ghost use Rattle.club_changes.specs.internal.Challenged.{PutsBegun, AnswersTo, HasNoEvent};
+ghost use Rattle.club_changes.specs.internal.Steps.{Puts, IsDecided, no_rows};
+ghost use Rattle.club_changes.specs.internal.Whole.{IsWhole};
 
 use crate::decided::{CommandEffect, changes_at, without_changes};
 use crate::fault::ChangeFault;

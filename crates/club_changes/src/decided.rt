@@ -3,7 +3,7 @@
 ghost use Rattle.std.specs.Prelude.{◌≡◌, ◌<◌, Some, None, false};
 ghost use Rattle.club_core.specs.Answer.{outcome_of};
 ghost use Rattle.club_core.specs.State.{is_accepted};
-ghost use Rattle.club_changes.specs.Steps.{Puts, no_rows};
+ghost use Rattle.club_changes.specs.internal.Steps.{Puts, no_rows};
 
 use clocks::Moment;
 use club_requests::Outcome;

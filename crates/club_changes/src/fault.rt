@@ -17,7 +17,7 @@ pub enum ChangeFault {
 
 impl fmt::Display for ChangeFault {
     ghost use Rattle.std.specs.Prelude.{Some};
-    ghost use Rattle.club_changes.specs.Faults.{fault_text};
+    ghost use Rattle.club_changes.specs.internal.Faults.{fault_text};
 
     ghost output = { λ fault. Some (fault_text fault) };
 
@@ -55,7 +55,7 @@ impl<T: Drop> From<AllocFailed<T>> for ChangeFault {
 
 impl From<SweepFault> for ChangeFault {
     ghost use Rattle.std.specs.Prelude.{◌≡◌};
-    ghost use Rattle.club_changes.specs.Faults.{fault_of_sweep};
+    ghost use Rattle.club_changes.specs.internal.Faults.{fault_of_sweep};
 
     ghost from_gives = { λ sweep e. e ≡ fault_of_sweep sweep };
 

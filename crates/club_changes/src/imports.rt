@@ -1,10 +1,10 @@
 //! Rows that an import adds.
 
 ghost use Rattle.std.specs.Prelude.{◌≡◌, [], ◌∷◌, map, Option, Some, IfOk};
-ghost use Rattle.club_core.specs.Answer.{events_of};
+ghost use Rattle.club_core.specs.internal.Answer.{events_of};
 ghost use Rattle.club_core.specs.Events.{event_kind};
 ghost use Rattle.store_tables.specs.Cells.{game_cells, move_cells, seen_cells};
-ghost use Rattle.club_changes.specs.Steps.{Puts, score_list, no_rows};
+ghost use Rattle.club_changes.specs.internal.Steps.{Puts, score_list, no_rows};
 
 use crate::decided::changes_at;
 use crate::game::listed_scores;

@@ -3,8 +3,8 @@
 ghost use Rattle.std.specs.Prelude.{◌≡◌, [], ◌∷◌, IfOk, IsTrue};
 ghost use Rattle.std.specs.Option.{option_map};
 ghost use Rattle.club_requests.specs.Limits.{is_budget};
-ghost use Rattle.club_rows.specs.Replay.{terms_given};
-ghost use Rattle.club_changes.specs.Steps.{first_row, first_seen_rows, first_meetings, Puts, no_rows};
+ghost use Rattle.club_rows.specs.internal.Replay.{terms_given};
+ghost use Rattle.club_changes.specs.internal.Steps.{first_row, first_seen_rows, first_meetings, Puts, no_rows};
 
 use crate::starts::start;
 use clocks::Moment;

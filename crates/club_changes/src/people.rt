@@ -2,15 +2,17 @@
 
 ghost use Rattle.std.specs.Prelude.{◌≡◌, ◌≤◌, ◌<◌, ◌^◌, Some, IfOk};
 ghost use Rattle.std.specs.Prelude.{length, string_bytes};
-ghost use Rattle.club_core.specs.Answer.{members_of, events_of, added_event};
+ghost use Rattle.club_core.specs.Answer.{added_event};
+ghost use Rattle.club_core.specs.internal.Answer.{members_of, events_of};
 ghost use Rattle.club_core.specs.State.{is_accepted, add_member, add_event};
 ghost use Rattle.club_core.specs.Events.{declaring};
 ghost use Rattle.club_rows.specs.Tables.{member_row, event_row, rule_row};
-ghost use Rattle.store_tables.specs.Cells.{member_cells, event_cells, event_rule_cells};
+ghost use Rattle.store_tables.specs.Cells.{event_cells};
+ghost use Rattle.store_tables.specs.internal.Cells.{member_cells, event_rule_cells};
 ghost use Rattle.club_rows.specs.Club.{ClubState, IsClub};
-ghost use Rattle.club_changes.specs.Steps.{caller_step};
-ghost use Rattle.club_changes.specs.Steps.{IsDecided};
-ghost use Rattle.club_changes.specs.Whole.{IsWhole};
+ghost use Rattle.club_changes.specs.internal.Steps.{caller_step};
+ghost use Rattle.club_changes.specs.internal.Steps.{IsDecided};
+ghost use Rattle.club_changes.specs.internal.Whole.{IsWhole};
 
 use crate::decided::{CommandEffect, changes_at, is_accepted, without_changes};
 use clocks::Moment;

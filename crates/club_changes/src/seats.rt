@@ -2,12 +2,12 @@
 
 ghost use Rattle.std.specs.Prelude.{◌≡◌, ◌<◌, [], ◌∷◌, Some, None, IfOk, IsErrOf};
 ghost use Rattle.std.specs.Option.{option_map};
-ghost use Rattle.club_core.specs.Answer.{event_of, events_of};
+ghost use Rattle.club_core.specs.internal.Answer.{event_of, events_of};
 ghost use Rattle.club_core.specs.State.{place};
 ghost use Rattle.club_core.specs.LegalState.{Each, IsLegalEvent};
-ghost use Rattle.club_rows.specs.Replay.{terms_given};
-ghost use Rattle.club_changes.specs.Steps.{started, started_seen, started_scores};
-ghost use Rattle.club_changes.specs.Steps.{Puts, no_rows};
+ghost use Rattle.club_rows.specs.internal.Replay.{terms_given};
+ghost use Rattle.club_changes.specs.internal.Steps.{started, started_seen, started_scores};
+ghost use Rattle.club_changes.specs.internal.Steps.{Puts, no_rows};
 
 use crate::fault::ChangeFault;
 use crate::kinds::seat_in;

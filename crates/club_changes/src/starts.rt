@@ -6,10 +6,10 @@ ghost use Rattle.club_core.specs.Game.{result_of};
 ghost use Rattle.club_requests.specs.Limits.{is_budget};
 ghost use Rattle.club_core.specs.State.{seated};
 ghost use Rattle.club_core.specs.View.{IsRowOf};
-ghost use Rattle.club_rows.specs.Replay.{terms_given};
+ghost use Rattle.club_rows.specs.internal.Replay.{terms_given};
 ghost use Rattle.club_rows.specs.Tables.{game_row};
 ghost use Rattle.club_rows.specs.Seen.{seen_rows};
-ghost use Rattle.club_changes.specs.Steps.{Puts, no_rows};
+ghost use Rattle.club_changes.specs.internal.Steps.{Puts, no_rows};
 
 use crate::decided::changes_at;
 use clocks::Moment;

@@ -4,12 +4,14 @@ ghost use Rattle.std.specs.Prelude.{◌≡◌, map, IfOk, IsErrOf};
 ghost use Rattle.club_core.specs.State.{sweep};
 ghost use Rattle.club_requests.specs.declared.requests.Caller.TheVariants.{Officer};
 ghost use Rattle.club_rows.specs.Club.{ClubState, IsClub, tables};
-ghost use Rattle.store_tables.specs.Cells.{game_cells, score_cells};
+ghost use Rattle.store_tables.specs.Cells.{game_cells};
+ghost use Rattle.store_tables.specs.internal.Cells.{score_cells};
 ghost use Rattle.store_tables.specs.Names.{tree_of};
 ghost use Rattle.store_tables.specs.declared.names.Table.TheVariants.{Games, Scores};
-ghost use Rattle.club_changes.specs.Steps.{caller_step, HaveSame, IsDecided};
-ghost use Rattle.club_changes.specs.Whole.{IsWhole};
-ghost use Rattle.club_changes.specs.Swept.{IsSwept};
+ghost use Rattle.club_changes.specs.Steps.{HaveSame};
+ghost use Rattle.club_changes.specs.internal.Steps.{caller_step, IsDecided};
+ghost use Rattle.club_changes.specs.internal.Whole.{IsWhole};
+ghost use Rattle.club_changes.specs.internal.Swept.{IsSwept};
 
 use crate::decided::{CommandEffect, changes_at};
 use crate::fault::ChangeFault;

@@ -8,20 +8,22 @@ use Rattle.sqlite.specs.Effect.{Database}
 use Rattle.sqlite.specs.Table.{Table as Definition}
 use Rattle.sqlite.specs.State.{State, IsUnchanged}
 use Rattle.store_tables.specs.Placed.{HasClubTables, HasTablesOf, club_trees}
-use Rattle.store_tables.specs.Reading.{ReturnsRows, AreIds, by_columns}
+use Rattle.store_tables.specs.internal.Reading.{ReturnsRows, AreIds, by_columns}
 use Rattle.store_tables.proofs.Proved.{one_shown, ids_of, apart_of, in_order, one_list, places_rise, has_map}
 use Rattle.store_tables.proofs.Proved.{has_mapped, same_then}
 use Rattle.sqlite.proofs.Callers.{unchanged_then}
 use Rattle.sqlite_rules.proofs.ListLemmas.{all_has, has_got}
-use Rattle.store_tables.specs.Cells.{IsMeta, meta_cells, member_cells, event_cells, game_cells, event_rule_cells}
-use Rattle.store_tables.specs.Cells.{IsChallenge, challenge_cells}
+use Rattle.store_tables.specs.Cells.{event_cells, game_cells}
+use Rattle.store_tables.specs.internal.Cells.{IsMeta, meta_cells, member_cells, event_rule_cells}
+use Rattle.store_tables.specs.Cells.{IsChallenge}
+use Rattle.store_tables.specs.internal.Cells.{challenge_cells}
 use Rattle.store_tables.specs.declared.rows.MetaRow.{MetaRow}
 use Rattle.sqlite_rules.specs.Lists.{Has}
 use Rattle.store_tables.specs.Content.{Keeps, AreApart, cells}
 use Rattle.store_tables.specs.Contents.{Content, Stores}
 use Rattle.sqlite_trees.specs.View.{is_int}
 use Rattle.std.specs.Prelude.{pos, slice_get, IsTrue}
-use Rattle.store_tables.specs.Rows.{HaveIds}
+use Rattle.store_tables.specs.internal.Rows.{HaveIds}
 use Rattle.store_tables.specs.declared.rows.Rows.{Rows}
 use Rattle.store_tables.specs.Tables.{club_schema, first_schema, schema_of, schema_number, meta, members, events, games}
 use Rattle.store_tables.specs.Tables.{event_rules, challenges}
@@ -32,11 +34,13 @@ use Rattle.store_tables.specs.declared.names.Version.TheVariants.{First, Current
 use Rattle.store_tables.specs.declared.names.Table.{Table}
 use Rattle.club_check.specs.declared.fault.OpenFault.{OpenFault}
 use Rattle.store_sql.specs.declared.fault.ReadFault.{ReadFault}
-use Rattle.store_sql.specs.Read.{Blames as BlamesRead, IsReadAs, BeginWithPlaces}
-use Rattle.club_check.specs.Faults.{told}
+use Rattle.store_sql.specs.internal.Read.{Blames as BlamesRead, IsReadAs, BeginWithPlaces}
+use Rattle.club_check.specs.internal.Faults.{told}
 use Rattle.club_check.specs.declared.fault.OpenFault.TheVariants.{Foreign, Memory, Store, Schema, Damaged}
-use Rattle.club_check.specs.ReasonIsRight.{AreRead, ReasonIsRight, HasNumber, HasTypes, IsMetaRead, IsOneMeta, IsRightFault, NamesForeign}
-use Rattle.club_check.specs.ReasonIsRight.{AreRulesRead, IsNumberFrom, NamesSchema, NamesTable, undeclared_row}
+use Rattle.club_check.specs.ReasonIsRight.{HasNumber, HasTypes, IsOneMeta, IsRightFault, NamesForeign}
+use Rattle.club_check.specs.internal.ReasonIsRight.{AreRead, ReasonIsRight, IsMetaRead}
+use Rattle.club_check.specs.ReasonIsRight.{IsNumberFrom, NamesSchema, NamesTable}
+use Rattle.club_check.specs.internal.ReasonIsRight.{AreRulesRead, undeclared_row}
 use Rattle.club_check.specs.Places.{NamesRows}
 use Rattle.club_check.specs.Versions.{HoldsRows, HasClub}
 use Rattle.club_check.proofs.StoredLemmas.{one_of, club_of_version, stands, unique_of}
@@ -55,7 +59,7 @@ use Rattle.club_rows.specs.Tables.{tables_of, challenge_row, number}
 use Rattle.club_rows.proofs.Proved.{rules-typed, members-typed, events-typed, moves-typed, games-typed, scores_typed}
 use Rattle.club_rows.proofs.Proved.{seen-typed, declares-alike, same-pos}
 use Rattle.club_changes.proofs.Proved.{challenges_typed, moved, numbered_had, numbered_has}
-use Rattle.club_audit.specs.Audit.{AreEvents, AreMembers, AreRules, HasPeople}
+use Rattle.club_audit.specs.internal.Audit.{AreEvents, AreMembers, AreRules, HasPeople}
 use Rattle.club_audit.proofs.Proved.{numbered-at, numbered-back, numbered-length}
 use Rattle.club_core.specs.LegalState.{Each}
 use Rattle.store_tables.specs.declared.rows.MemberRow.{MemberRow}
@@ -69,9 +73,9 @@ use Rattle.club_core.specs.declared.challenges.ChallengeState.{ChallengeState}
 use Rattle.club_core.specs.declared.challenges.ChallengeState.TheVariants.{Accepted}
 use Rattle.club_core.specs.Challenges.{pairing_for}
 use Rattle.club_core.specs.declared.seats.Pairing.{Pairing}
-use Rattle.club_rows.specs.ChallengeRows.{HasShortGame}
+use Rattle.club_rows.specs.internal.ChallengeRows.{HasShortGame}
 use Rattle.club_rows.specs.EachOnce.{AreEachOnce}
-use Rattle.club_audit.specs.ChallengeAudit.{AreChallenges, IsChallengeAmong, IsGameAmong}
+use Rattle.club_audit.specs.internal.ChallengeAudit.{AreChallenges, IsChallengeAmong, IsGameAmong}
 use Rattle.club_check.specs.RightTables.{HasGame, HasId, HaveChallenges, IsChallengeIn}
 use Rattle.club_check.proofs.RowLemmas.{challenge_key, each_once, had_place, there_at}
 use Rattle.store_sql.specs.declared.fault.ReadFault.TheVariants as read_fault

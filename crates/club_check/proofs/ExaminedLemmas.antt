@@ -13,30 +13,34 @@ use Rattle.club_laws.proofs.Proved.{each-append, got-append}
 use Rattle.store_tables.specs.Placed.{club_trees}
 use Rattle.store_tables.specs.Cells.{game_cells}
 use Rattle.store_tables.specs.Content.{AreApart, cells}
-use Rattle.store_tables.specs.Rows.{HaveIds}
+use Rattle.store_tables.specs.internal.Rows.{HaveIds}
 use Rattle.store_tables.specs.Tables.{moves, seen}
 use Rattle.store_tables.specs.declared.names.Table.{Table}
 use Rattle.store_tables.specs.declared.names.Table.TheVariants.{Moves, Games, Seen, Scores, Meta}
 use Rattle.store_tables.specs.declared.names.Version.{Version}
 use Rattle.store_tables.specs.declared.rows.GameTableRow.{GameTableRow}
 use Rattle.store_tables.specs.declared.rows.Rows.{Rows}
-use Rattle.store_sql.specs.Read.{AreCounted, beginning_with}
+use Rattle.store_sql.specs.Read.{beginning_with}
+use Rattle.store_sql.specs.internal.Read.{AreCounted}
 use Rattle.club_rows.specs.Club.{both_games, ClubGame, ClubState, IsClub}
 use Rattle.club_rows.specs.FirstSchema.{IsClubOf}
 use Rattle.club_rows.specs.Tables.{numbered_from, row_of_game, rows_of_moves, rows_of_seen}
-use Rattle.club_audit.specs.Audit.{AreApartGames, HasPeople, until}
+use Rattle.club_audit.specs.internal.Audit.{AreApartGames, HasPeople, until}
 use Rattle.club_audit.proofs.Proved.{keys-in, id-told, numbered-append, numbered-length}
-use Rattle.club_audit.specs.FirstWrong.{Precedes, order}
+use Rattle.club_audit.specs.FirstWrong.{order}
+use Rattle.club_audit.specs.internal.FirstWrong.{Precedes}
 use Rattle.club_rows.proofs.Proved.{same-pos}
-use Rattle.club_check.specs.Examined.{AreGamesFound, AreLeftAfter, IsFoundAs, IsGameFound, IsPlayExamined, NamesPlay}
-use Rattle.club_check.specs.Examined.{AreScoresExamined, IsAfter, IsGameOf, IsOf, IsOneOf, IsPlayed, NamesLeft}
-use Rattle.club_check.specs.Examined.{WereFound, WerePlayed, moves_in, past, seen_in, AreExamined}
+use Rattle.club_check.specs.internal.Examined.{AreGamesFound, AreLeftAfter, IsFoundAs, IsGameFound, IsPlayExamined}
+use Rattle.club_check.specs.internal.Examined.{NamesPlay}
+use Rattle.club_check.specs.internal.Examined.{AreScoresExamined, IsAfter, IsGameOf, IsOf, IsOneOf, IsPlayed}
+use Rattle.club_check.specs.internal.Examined.{NamesLeft}
+use Rattle.club_check.specs.internal.Examined.{WereFound, WerePlayed, moves_in, past, seen_in, AreExamined}
 use Rattle.club_check.specs.ReasonIsRight.{NamesTable}
-use Rattle.club_check.specs.Places.{IsMomentOf, IsNoRegister, IsRegisterOf, last_moment}
+use Rattle.club_check.specs.internal.Places.{IsMomentOf, IsNoRegister, IsRegisterOf, last_moment}
 use Rattle.club_check.specs.declared.fault.OpenFault.{OpenFault}
 use Rattle.club_check.specs.declared.fault.OpenFault.TheVariants.{Damaged}
 use Rattle.club_check.specs.Versions.{HasClub}
-use Rattle.club_check.specs.RightMoves.{HasMovesOf, beyond, HaveSeenOf, id_at, without}
+use Rattle.club_check.specs.internal.RightMoves.{HasMovesOf, beyond, HaveSeenOf, id_at, without}
 use Rattle.club_check.proofs.StoredLemmas.{club_of_version}
 use Rattle.club_changes.proofs.Proved.{moves_had, take_next}
 use Rattle.club_check.proofs.ClubLemmas.{before, stays, read_after, events_of, members_of}
@@ -45,7 +49,7 @@ use Rattle.club_check.proofs.FirstWrong.{shown_held}
 use Rattle.club_check.proofs.RowLemmas.{seen_had, last_or, past_step, table_past, beyond_step, id_of_game, ids_apart}
 use Rattle.club_check.proofs.RowLemmas.{moves_gathered, none_beyond, seen_owned}
 use Rattle.store_tables.specs.Changes.{HaveSame}
-use Rattle.club_check.specs.Faults.{told}
+use Rattle.club_check.specs.internal.Faults.{told}
 
 -- ---- wrong tables
 

@@ -9,8 +9,10 @@ use Rattle.sqlite.specs.State.{State}
 use Rattle.store_tables.specs.Placed.{HasTablesOf, club_trees}
 use Rattle.store_tables.proofs.Proved.{versions_apart, same_by, same_itself}
 use Rattle.sqlite_rules.proofs.ListLemmas.{all_has, has_got}
-use Rattle.store_tables.specs.Cells.{member_cells, event_cells, event_rule_cells}
-use Rattle.store_tables.specs.Cells.{IsChallenge, challenge_cells, IsEvent, IsEventRule, IsGame, IsMember, IsMove}
+use Rattle.store_tables.specs.Cells.{event_cells}
+use Rattle.store_tables.specs.internal.Cells.{member_cells, event_rule_cells}
+use Rattle.store_tables.specs.Cells.{IsChallenge, IsEvent, IsEventRule, IsGame, IsMember, IsMove}
+use Rattle.store_tables.specs.internal.Cells.{challenge_cells}
 use Rattle.store_tables.specs.Cells.{IsSeen}
 use Rattle.sqlite_rules.specs.Lists.{Has}
 use Rattle.store_tables.specs.Content.{Keeps, AreApart, cells}
@@ -25,14 +27,17 @@ use Rattle.store_tables.specs.declared.names.Version.{Version}
 use Rattle.store_tables.specs.declared.names.Version.TheVariants.{First, Current}
 use Rattle.store_tables.specs.declared.names.Table.{Table}
 use Rattle.club_check.specs.declared.fault.OpenFault.{OpenFault}
-use Rattle.store_sql.specs.Read.{IsReadAs}
-use Rattle.club_check.specs.Faults.{told}
+use Rattle.store_sql.specs.internal.Read.{IsReadAs}
+use Rattle.club_check.specs.internal.Faults.{told}
 use Rattle.club_check.specs.declared.fault.OpenFault.TheVariants.{Damaged}
-use Rattle.club_check.specs.ReasonIsRight.{ReasonIsRight, HasTypes}
-use Rattle.club_check.specs.ReasonIsRight.{AreRulesRead, undeclared_row, HoldsOnly}
+use Rattle.club_check.specs.ReasonIsRight.{HasTypes}
+use Rattle.club_check.specs.internal.ReasonIsRight.{ReasonIsRight}
+use Rattle.club_check.specs.ReasonIsRight.{HoldsOnly}
+use Rattle.club_check.specs.internal.ReasonIsRight.{AreRulesRead, undeclared_row}
 use Rattle.club_check.specs.ReasonIsRight.{HoldsNone}
 use Rattle.club_check.specs.Places.{NamesRows}
-use Rattle.club_check.specs.Versions.{HoldsRows, HasEvents}
+use Rattle.club_check.specs.Versions.{HoldsRows}
+use Rattle.club_check.specs.internal.Versions.{HasEvents}
 use Rattle.club_check.proofs.StoredLemmas.{one_of, club_of_version}
 use Rattle.std.proofs.lemmas.Option.{same_Some}
 use Rattle.club_core.specs.Events.{Event}
@@ -44,7 +49,7 @@ use Rattle.club_rows.specs.Tables.{rule_row, numbered_from}
 use Rattle.club_rows.specs.Tables.{tables_of, challenge_row}
 use Rattle.club_rows.proofs.Proved.{seen-typed}
 use Rattle.club_changes.proofs.Proved.{challenges_typed, moved}
-use Rattle.club_audit.specs.Audit.{AreEvents, AreMembers, AreRules, HasPeople, AreRulesOf}
+use Rattle.club_audit.specs.internal.Audit.{AreEvents, AreMembers, AreRules, HasPeople, AreRulesOf}
 use Rattle.club_audit.proofs.Proved.{rules-counted, ruled-of}
 use Rattle.club_core.specs.LegalState.{Each}
 use Rattle.store_tables.specs.declared.rows.MemberRow.{MemberRow}
@@ -52,17 +57,21 @@ use Rattle.store_tables.specs.Changes.{HaveSame}
 use Rattle.store_tables.specs.declared.rows.GameTableRow.{GameTableRow}
 use Rattle.club_core.specs.declared.challenges.Challenge.{Challenge}
 use Rattle.club_core.specs.declared.seats.Pairing.{Pairing}
-use Rattle.club_audit.specs.ChallengeAudit.{AreChallenges, IsGameAmong}
+use Rattle.club_audit.specs.internal.ChallengeAudit.{AreChallenges, IsGameAmong}
 use Rattle.club_check.specs.RightTables.{HasGame, HaveChallenges, AreOfClub, HasTable}
-use Rattle.club_check.specs.RightTables.{IsFirstIn, IsLater, IsOfPlay, IsRight, IsUnheld, IsUntyped, IsWrongOfPlay}
-use Rattle.club_check.specs.RightTables.{NamesFirstDamaged, NamesPlayed, NamesWrong, TellsEvents, rows_in}
+use Rattle.club_check.specs.RightTables.{IsFirstIn, IsRight}
+use Rattle.club_check.specs.internal.RightTables.{IsLater, IsOfPlay, IsUnheld, IsUntyped, IsWrongOfPlay}
+use Rattle.club_check.specs.RightTables.{NamesFirstDamaged, rows_in}
+use Rattle.club_check.specs.internal.RightTables.{NamesPlayed, NamesWrong, TellsEvents}
 use Rattle.store_tables.specs.declared.rows.MoveRow.{MoveRow}
 use Rattle.store_tables.specs.declared.rows.SeenRow.{SeenRow}
 use Rattle.club_core.specs.Members.{Member}
-use Rattle.club_audit.specs.FirstWrong.{IsFirstWrong, order}
-use Rattle.club_audit.specs.GameAudit.{IsRightAt}
-use Rattle.club_check.specs.Examined.{moves_in, seen_in}
-use Rattle.club_check.specs.RightMoves.{HaveMoves, HaveMovesOf, SeenWrong}
+use Rattle.club_audit.specs.FirstWrong.{order}
+use Rattle.club_audit.specs.internal.FirstWrong.{IsFirstWrong}
+use Rattle.club_audit.specs.internal.GameAudit.{IsRightAt}
+use Rattle.club_check.specs.internal.Examined.{moves_in, seen_in}
+use Rattle.club_check.specs.RightMoves.{HaveMoves}
+use Rattle.club_check.specs.internal.RightMoves.{HaveMovesOf, SeenWrong}
 use Rattle.club_check.proofs.RowLemmas.{shown_same}
 use Rattle.club_check.proofs.ClubLemmas.{before, challenges_once, challenges_right, event_count, events_kept}
 use Rattle.club_check.proofs.ClubLemmas.{events_of, keeps_same, member_count, members_kept, members_of, names}

@@ -16,24 +16,28 @@ use Rattle.store_tables.specs.declared.names.Table.TheVariants.{Moves, Games, Se
 use Rattle.store_tables.specs.declared.names.Version.{Version}
 use Rattle.store_tables.specs.declared.rows.GameTableRow.{GameTableRow}
 use Rattle.store_tables.specs.declared.rows.Rows.{Rows}
-use Rattle.store_sql.specs.Read.{beginning_with, AreReadOf, Blames as BlamesRead}
+use Rattle.store_sql.specs.Read.{beginning_with}
+use Rattle.store_sql.specs.internal.Read.{AreReadOf, Blames as BlamesRead}
 use Rattle.club_rows.specs.Club.{both_games, ClubGame, ClubState}
 use Rattle.club_rows.specs.FirstSchema.{tables_at}
 use Rattle.club_rows.specs.Tables.{row_of_game, rows_of_moves, rows_of_seen, at_start, tables_of}
-use Rattle.club_audit.specs.Audit.{HasPeople, until, terms_told, AreAllOf, IsGameAt}
+use Rattle.club_audit.specs.Audit.{terms_told}
+use Rattle.club_audit.specs.internal.Audit.{HasPeople, until, AreAllOf, IsGameAt}
 use Rattle.club_audit.proofs.Proved.{id-told, club-right, later-game}
 use Rattle.club_audit.proofs.Proved.{numbered-at, all-right, right-club}
-use Rattle.club_audit.specs.FirstWrong.{order, IsFirstWrong}
+use Rattle.club_audit.specs.FirstWrong.{order}
+use Rattle.club_audit.specs.internal.FirstWrong.{IsFirstWrong}
 use Rattle.club_rows.proofs.Proved.{moves-typed}
-use Rattle.club_check.specs.Examined.{IsFoundAs, IsGameFound, NamesPlay}
-use Rattle.club_check.specs.Examined.{IsAfter, IsGameOf, IsOneOf}
-use Rattle.club_check.specs.Examined.{moves_in, seen_in}
-use Rattle.club_check.specs.Places.{IsMomentOf, last_moment}
+use Rattle.club_check.specs.internal.Examined.{IsFoundAs, IsGameFound, NamesPlay}
+use Rattle.club_check.specs.internal.Examined.{IsAfter, IsGameOf, IsOneOf}
+use Rattle.club_check.specs.internal.Examined.{moves_in, seen_in}
+use Rattle.club_check.specs.internal.Places.{IsMomentOf, last_moment}
 use Rattle.club_check.specs.declared.fault.OpenFault.{OpenFault}
 use Rattle.club_check.specs.declared.fault.OpenFault.TheVariants.{Damaged, Memory, Store}
 use Rattle.club_check.specs.Versions.{HoldsRows}
-use Rattle.club_check.specs.RightMoves.{HasMovesOf, HaveSeenOf, HasItsMoves, GamesWrong}
-use Rattle.club_check.specs.RightMoves.{HaveGamesOf, MovesWrong, SeenWrong}
+use Rattle.club_check.specs.RightMoves.{HasItsMoves}
+use Rattle.club_check.specs.internal.RightMoves.{HasMovesOf, HaveSeenOf, GamesWrong}
+use Rattle.club_check.specs.internal.RightMoves.{HaveGamesOf, MovesWrong, SeenWrong}
 use Rattle.club_check.proofs.StoredLemmas.{club_of_version, AreUnique, unique_of}
 use Rattle.club_changes.proofs.Proved.{moves_had}
 use Rattle.club_check.proofs.ClubLemmas.{before, typed_at}
@@ -57,15 +61,16 @@ use Rattle.club_rules.specs.declared.names.GameKind.{GameKind}
 use Rattle.club_rules.specs.declared.names.GameKind.TheVariants.{Draughts, Shogi}
 use Rattle.club_core.specs.Events.{Terms}
 use Rattle.club_rows.specs.LegalRows.{AreMovesOf}
-use Rattle.club_audit.specs.GameAudit.{IsRightAt, IsRightOf}
+use Rattle.club_audit.specs.GameAudit.{IsRightOf}
+use Rattle.club_audit.specs.internal.GameAudit.{IsRightAt}
 use Rattle.club_rows.specs.EachOnce.{AreEachOnce}
 use Rattle.std.proofs.lemmas.Str.{IsUtf8-string_bytes}
 use Rattle.store_tables.specs.Contents.{Content, Stores}
 use Rattle.std.proofs.lemmas.List.Sorted.{length_permutation}
 use Rattle.store_sql.specs.declared.fault.ReadFault.{ReadFault}
 use Rattle.store_sql.specs.declared.fault.ReadFault.TheVariants.{WrongType}
-use Rattle.club_check.specs.Faults.{told}
-use Rattle.club_check.specs.RightTables.{IsUntyped}
+use Rattle.club_check.specs.internal.Faults.{told}
+use Rattle.club_check.specs.internal.RightTables.{IsUntyped}
 use Rattle.club_check.proofs.ExaminedLemmas.{after_precedes, both_after, club_games, club_of, either, moves_number}
 use Rattle.club_check.proofs.ExaminedLemmas.{next, played_after, seen_number}
 

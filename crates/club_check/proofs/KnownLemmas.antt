@@ -16,11 +16,14 @@ use Rattle.club_rules.specs.declared.names.GameKind.{GameKind}
 use Rattle.club_rules.specs.declared.names.GameKind.TheVariants.{Draughts, Shogi}
 use Rattle.club_core.specs.Events.{Terms}
 use Rattle.club_core.specs.State.{place}
-use Rattle.club_audit.specs.Audit.{HasPeople, NamesRule, terms_told}
+use Rattle.club_audit.specs.Audit.{terms_told}
+use Rattle.club_audit.specs.internal.Audit.{HasPeople, NamesRule}
 use Rattle.club_audit.specs.GameAudit.{IsRightOf}
 use Rattle.club_audit.proofs.Proved.{numbered-at, numbered-back}
-use Rattle.store_tables.specs.Cells.{IsMove, event_cells, event_rule_cells, game_cells, move_cells, IsGame}
-use Rattle.store_tables.specs.Cells.{challenge_cells, member_cells, IsText, OrNull}
+use Rattle.store_tables.specs.Cells.{IsMove, event_cells, game_cells, move_cells, IsGame}
+use Rattle.store_tables.specs.internal.Cells.{event_rule_cells}
+use Rattle.store_tables.specs.Cells.{IsText, OrNull}
+use Rattle.store_tables.specs.internal.Cells.{challenge_cells, member_cells}
 use Rattle.store_tables.specs.Changes.{HaveSame}
 use Rattle.store_tables.specs.Content.{Keeps, same_key, AreApart}
 use Rattle.store_tables.specs.Contents.{Content}
@@ -34,11 +37,14 @@ use Rattle.store_tables.specs.declared.rows.GameTableRow.{GameTableRow}
 use Rattle.store_tables.specs.declared.rows.MoveRow.{MoveRow}
 use Rattle.store_tables.specs.declared.rows.Rows.{Rows}
 use Rattle.store_tables.proofs.Proved.{has_map, has_mapped, same_then, all_alike, ids_of}
-use Rattle.store_sql.specs.Read.{beginning_with, AreCounted, IsReadAs}
-use Rattle.club_check.specs.ReasonIsRight.{AreRead, AreRulesRead, undeclared_row, HoldsOnly, IsRightFault, NamesTable}
+use Rattle.store_sql.specs.Read.{beginning_with}
+use Rattle.store_sql.specs.internal.Read.{AreCounted, IsReadAs}
+use Rattle.club_check.specs.ReasonIsRight.{HoldsOnly, IsRightFault, NamesTable}
+use Rattle.club_check.specs.internal.ReasonIsRight.{AreRead, AreRulesRead, undeclared_row}
 use Rattle.club_check.specs.Versions.{HoldsRows}
-use Rattle.club_check.specs.Examined.{moves_in, IsAfter, IsPlayExamined, NamesPlay}
-use Rattle.club_check.specs.RightMoves.{DeclaresIn, HaveMoves, HaveMovesOf}
+use Rattle.club_check.specs.internal.Examined.{moves_in, IsAfter, IsPlayExamined, NamesPlay}
+use Rattle.club_check.specs.RightMoves.{DeclaresIn, HaveMoves}
+use Rattle.club_check.specs.internal.RightMoves.{HaveMovesOf}
 use Rattle.club_check.proofs.StoredLemmas.{one_of, stands, club_of_version}
 use Rattle.club_check.proofs.FirstWrong.{held_same, kept_same, rules_in, types_same, shown_held, first_games}
 use Rattle.club_check.proofs.FirstWrong.{first_known, first_moves, stores_of, JudgesChallenges, judged_among}
@@ -46,15 +52,17 @@ use Rattle.club_check.proofs.ClubLemmas.{mapped_at, before, stays, read_after, t
 use Rattle.club_check.proofs.RowLemmas.{same_back, had_place}
 use Rattle.sqlite_value.specs.declared.value.Value.{Value}
 use Rattle.sqlite.specs.Effect.{Database}
-use Rattle.store_tables.specs.Reading.{ReturnsRows, AreIds}
+use Rattle.store_tables.specs.internal.Reading.{ReturnsRows, AreIds}
 use Rattle.store_tables.specs.declared.names.Table.{Table}
-use Rattle.club_audit.specs.ChallengeAudit.{AreChallenges, IsGameAmong}
+use Rattle.club_audit.specs.internal.ChallengeAudit.{AreChallenges, IsGameAmong}
 use Rattle.club_core.specs.declared.challenges.Challenge.{Challenge}
 use Rattle.club_core.specs.declared.seats.Pairing.{Pairing}
 use Rattle.club_rows.specs.FirstSchema.{tables_at}
-use Rattle.club_check.specs.KnownGames.{AreGamesKnown, AreJudged, NamesUntyped, game_seat, known, row_seat, IsJudged}
-use Rattle.club_check.specs.RightTables.{AreOfClub, HasGame, IsUnheld, IsUntyped, NamesFirstDamaged, IsLater, IsOfPlay}
-use Rattle.club_check.specs.RightTables.{NamesPlayed}
+use Rattle.club_check.specs.internal.KnownGames.{AreGamesKnown, AreJudged, NamesUntyped, game_seat, known, row_seat}
+use Rattle.club_check.specs.internal.KnownGames.{IsJudged}
+use Rattle.club_check.specs.RightTables.{AreOfClub, HasGame, NamesFirstDamaged}
+use Rattle.club_check.specs.internal.RightTables.{IsUnheld, IsUntyped, IsLater, IsOfPlay}
+use Rattle.club_check.specs.internal.RightTables.{NamesPlayed}
 use Rattle.club_check.specs.declared.fault.OpenFault.{OpenFault}
 use Rattle.club_check.specs.declared.fault.OpenFault.TheVariants.{Damaged, Memory, Store}
 use Rattle.std.specs.List.{AllByRecursion}
@@ -65,7 +73,7 @@ use Rattle.sqlite.specs.Values.{IsInt, or_null}
 use Rattle.sqlite_trees.specs.Tree.{IsAscending}
 use Rattle.sqlite_trees.specs.View.{is_int}
 use Rattle.club_changes.proofs.Proved.{take_next}
-use Rattle.store_tables.specs.Rows.{HaveIds}
+use Rattle.store_tables.specs.internal.Rows.{HaveIds}
 use Rattle.club_audit.specs.FirstWrong.{order}
 use Rattle.club_check.proofs.FoundGames.{moves_alike}
 

@@ -9,7 +9,8 @@ use Rattle.sqlite.specs.Schema.{Schema}
 use Rattle.sqlite.specs.State.{State, IsUnchanged}
 use Rattle.sqlite_rules.proofs.ListLemmas.{all_has}
 use Rattle.store_tables.specs.Placed.{club_trees, HasTablesOf}
-use Rattle.store_tables.specs.Cells.{IsScore, challenge_cells, game_cells, score_cells, meta_cells}
+use Rattle.store_tables.specs.Cells.{IsScore, game_cells}
+use Rattle.store_tables.specs.internal.Cells.{challenge_cells, score_cells, meta_cells}
 use Rattle.store_tables.specs.Content.{Keeps, cells, AreApart}
 use Rattle.store_tables.specs.Contents.{Content, Stores, AreStored}
 use Rattle.store_tables.specs.Tables.{challenges, events, games, members, moves, schema_of, scores, seen, meta}
@@ -22,7 +23,7 @@ use Rattle.store_tables.specs.declared.names.Version.TheVariants.{First, Current
 use Rattle.store_tables.specs.declared.rows.Rows.{Rows}
 use Rattle.store_tables.specs.declared.rows.ScoreRow.{ScoreRow}
 use Rattle.store_tables.proofs.Proved.{same_by, same_then, leaves_of, has_map, has_mapped}
-use Rattle.store_sql.specs.Read.{IsReadAs}
+use Rattle.store_sql.specs.internal.Read.{IsReadAs}
 use Rattle.club_core.specs.declared.challenges.Challenge.{Challenge}
 use Rattle.club_rows.specs.Club.{both_games, ClubState, IsClub}
 use Rattle.club_rows.specs.EachOnce.{AreEachOnce}
@@ -30,23 +31,28 @@ use Rattle.club_rows.specs.FirstSchema.{IsClubOf, tables_at}
 use Rattle.club_rows.specs.Scores.{scores_in}
 use Rattle.club_rows.specs.Tables.{rows_of_moves, rows_of_seen, tables_of, meta_row}
 use Rattle.club_rows.proofs.Proved.{scores_typed}
-use Rattle.club_audit.specs.Audit.{AreApartGames, HasPeople}
-use Rattle.club_audit.specs.ChallengeAudit.{AreChallenges}
+use Rattle.club_audit.specs.internal.Audit.{AreApartGames, HasPeople}
+use Rattle.club_audit.specs.internal.ChallengeAudit.{AreChallenges}
 use Rattle.club_audit.specs.FirstWrong.{order}
-use Rattle.club_audit.specs.Standings.{AreGamesOf}
+use Rattle.club_audit.specs.internal.Standings.{AreGamesOf}
 use Rattle.club_audit.proofs.Proved.{challenges-of, game-elsewhere, keys-of, club-challenges, keys-in, numbered-length}
 use Rattle.club_changes.proofs.Proved.{◌&◌, moves_had, moved}
-use Rattle.club_check.specs.ReasonIsRight.{AreRead, ReasonIsRight, IsRightFault, HoldsNone, HoldsOnly, IsMetaRead, NamesTable}
-use Rattle.club_check.specs.Examined.{AreScoresExamined, AreSeenOf, IsAfter, IsPlayExamined, IsPlayed, WerePlayed}
-use Rattle.club_check.specs.Examined.{moves_in, past, seen_in, NamesPlay, IsOf, AreExamined}
-use Rattle.club_check.specs.Places.{last_moment, IsRegisterOf}
-use Rattle.club_check.specs.RightTables.{AreOfClub, ArePlayed, AreScored, AreSeated, HasScores, HasTable, IsOfPlay}
-use Rattle.club_check.specs.RightTables.{NamesScores, rows_in, IsFirstIn, IsRight, IsWrongOfPlay, NamesExamined}
+use Rattle.club_check.specs.ReasonIsRight.{IsRightFault, HoldsNone, HoldsOnly, NamesTable}
+use Rattle.club_check.specs.internal.ReasonIsRight.{AreRead, ReasonIsRight, IsMetaRead}
+use Rattle.club_check.specs.internal.Examined.{AreScoresExamined, AreSeenOf, IsAfter, IsPlayExamined, IsPlayed}
+use Rattle.club_check.specs.internal.Examined.{WerePlayed}
+use Rattle.club_check.specs.internal.Examined.{moves_in, past, seen_in, NamesPlay, IsOf, AreExamined}
+use Rattle.club_check.specs.internal.Places.{last_moment, IsRegisterOf}
+use Rattle.club_check.specs.RightTables.{AreOfClub, HasTable}
+use Rattle.club_check.specs.internal.RightTables.{ArePlayed, AreScored, AreSeated, HasScores, IsOfPlay}
+use Rattle.club_check.specs.RightTables.{rows_in, IsFirstIn, IsRight}
+use Rattle.club_check.specs.internal.RightTables.{NamesScores, IsWrongOfPlay, NamesExamined}
 use Rattle.club_check.specs.RightTables.{NamesFirstDamaged}
-use Rattle.club_check.specs.Versions.{HasClub, HoldsRows, IsExactlyClub, IsOpenedAt}
+use Rattle.club_check.specs.Versions.{HasClub, HoldsRows, IsOpenedAt}
+use Rattle.club_check.specs.internal.Versions.{IsExactlyClub}
 use Rattle.club_check.specs.declared.fault.OpenFault.{OpenFault}
 use Rattle.club_check.specs.declared.fault.OpenFault.TheVariants.{Damaged}
-use Rattle.store_tables.specs.Rows.{HaveIds}
+use Rattle.store_tables.specs.internal.Rows.{HaveIds}
 use Rattle.club_check.proofs.StoredLemmas.{unique_of, club_of_version, one_of, held_alone}
 use Rattle.club_check.proofs.ExaminedLemmas.{played_after, blamed_before, people_of}
 use Rattle.club_check.proofs.ClubLemmas.{before, typed_at, keeps_same, none_declared, games_kept, one_row}
@@ -59,14 +65,15 @@ use Rattle.club_check.proofs.ClubLemmas.{challenges_once, game_among}
 use Rattle.club_check.proofs.FirstWrong.{JudgesChallenges, judged_among}
 use Rattle.sqlite.specs.Tree.{Trees}
 use Rattle.sqlite_trees.proofs.ListLemmas.{all_both}
-use Rattle.club_check.specs.RightMoves.{HaveGamesOf, HaveSeenOf, HaveMoves}
+use Rattle.club_check.specs.RightMoves.{HaveMoves}
+use Rattle.club_check.specs.internal.RightMoves.{HaveGamesOf, HaveSeenOf}
 use Rattle.sqlite_value.specs.declared.value.Value.TheVariants.{Int}
 use Rattle.sqlite.specs.Table.{Table as Definition}
 use Rattle.store_tables.specs.Reading.{KeepsMay}
 use Rattle.club_changes.specs.Steps.{HaveSame}
 use Rattle.club_check.proofs.RowLemmas.{seen_had, same_back, each_once, score_key, table_gathered}
 use Rattle.club_check.proofs.KnownLemmas.{moves_told, JudgesMoves}
-use Rattle.store_tables.specs.Changes as changes
+use Rattle.store_tables.specs.internal.Changes as changes
 use Rattle.store_tables.specs.Contents as of_schema
 
 -- ---- scores

@@ -9,7 +9,7 @@ use Rattle.std.proofs.lemmas.Option.{slice_get_within}
 use Rattle.sqlite_value.specs.Keys.{first_key, plain}
 use Rattle.sqlite_value.proofs.OrderLemmas.{value_cmp_total, value_cmp-Int}
 use Rattle.sqlite_value.specs.declared.value.Value.TheVariants.{Int}
-use Rattle.club_check.specs.RightMoves.{without, HasMovesOf, HaveMovesOf, HaveSeenOf, beyond, id_at}
+use Rattle.club_check.specs.internal.RightMoves.{without, HasMovesOf, HaveMovesOf, HaveSeenOf, beyond, id_at}
 use Rattle.sqlite.specs.Order.{Row, column}
 use Rattle.sqlite_trees.proofs.ListLemmas.{filter-filter, all_weaker, ascending-map, all_both, ascending-filter}
 use Rattle.sqlite_rules.specs.Lists.{Has}
@@ -19,8 +19,9 @@ use Rattle.store_tables.proofs.Proved.{equal_cmp, equal_from, equal_ints, differ
 use Rattle.store_tables.proofs.Proved.{has_mapped, has_turned, same_then}
 use Rattle.club_rows.specs.Tables.{number, gathered_from, entry_row, entry_rows, with_entry, rows_of_moves}
 use Rattle.club_rows.specs.Tables.{rows_of_seen, tables_of, row_of_game}
-use Rattle.store_sql.specs.Read.{beginning_with, IsReadAs, AreReadOf}
-use Rattle.club_check.specs.Examined.{past, seen_in}
+use Rattle.store_sql.specs.Read.{beginning_with}
+use Rattle.store_sql.specs.internal.Read.{IsReadAs, AreReadOf}
+use Rattle.club_check.specs.internal.Examined.{past, seen_in}
 use Rattle.club_changes.specs.Steps.{HaveSame}
 use Rattle.club_changes.proofs.Proved.{ids_agree, ids_same, gathered_had, gathered_has, moved}
 use Rattle.std.specs.Cmp.{IsTotalOrder, tied_itself}
@@ -44,7 +45,7 @@ use Rattle.club_rules.specs.GameRules.{GameRules}
 use Rattle.club_core.specs.Events.{Event, Terms}
 use Rattle.club_core.specs.Game.{Entry, Game}
 use Rattle.club_core.specs.State.{draughts, shogi, place, terms_at}
-use Rattle.store_tables.specs.Reading.{by_columns, rising}
+use Rattle.store_tables.specs.internal.Reading.{by_columns, rising}
 use Rattle.store_tables.specs.Tables.{moves, challenges, seen, scores}
 use Rattle.club_rows.specs.Club.{ClubGame, both_games, ClubState, IsClub}
 use Rattle.sqlite.specs.State.{State}
@@ -54,11 +55,11 @@ use Rattle.store_tables.specs.Cells.{IsText, IsChallenge, IsSeen, IsScore, IsMov
 use Rattle.club_rows.specs.EachOnce.{AreEachOnce}
 use Rattle.club_check.proofs.StoredLemmas.{AreUnique}
 use Rattle.std.proofs.lemmas.List.Sorted.{IsPermutation-sym}
-use Rattle.store_tables.specs.Queries.{by_others}
+use Rattle.store_tables.specs.internal.Queries.{by_others}
 use Rattle.club_rows.proofs.Proved.{seen-id, seen-typed}
 use Rattle.club_rows.specs.Seen.{texts_of}
 use Rattle.club_audit.proofs.Proved.{id-told, numbered-back}
-use Rattle.store_tables.specs.Rows.{HaveIds}
+use Rattle.store_tables.specs.internal.Rows.{HaveIds}
 use Rattle.store_tables.specs.declared.rows.GameTableRow.{GameTableRow}
 use Rattle.store_tables.specs.declared.rows.Rows.{Rows}
 

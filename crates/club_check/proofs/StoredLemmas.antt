@@ -14,7 +14,8 @@ use Rattle.store_tables.specs.Placed.{HasClubTables, HasTables, HasTablesOf, Has
 use Rattle.store_tables.specs.Content.{AreApart}
 use Rattle.store_tables.specs.Contents.{AreStored, Content, Stores}
 use Rattle.store_tables.proofs.Proved.{first_of_current, keeps_moved, tables_alone, unique_here, versions_apart}
-use Rattle.store_tables.specs.Tables.{IsClubSchema, schema_of}
+use Rattle.store_tables.specs.Tables.{schema_of}
+use Rattle.store_tables.specs.internal.Tables.{IsClubSchema}
 use Rattle.store_tables.specs.declared.names.Table.{Table}
 use Rattle.store_tables.specs.declared.names.Table.TheVariants.{Members, Events, EventRules, Challenges, Moves, Games}
 use Rattle.store_tables.specs.declared.names.Table.TheVariants.{Seen, Scores, Meta}

@@ -1,10 +1,8 @@
 pub mod ReasonIsRight
-pub mod Examined
 pub mod FaultText
-pub mod Faults
-pub mod KnownGames
 pub mod Places
 pub mod Versions
 pub mod Refused
 pub mod RightMoves
 pub mod RightTables
+pub mod internal

@@ -1,5 +1,4 @@
 -- The tables of a club in a database, by schema version.
-use Rattle.std.specs.Prelude.{◌≡◌, List, map}
 use Rattle.sqlite.specs.Effect.{Database, IsDatabase}
 use Rattle.sqlite.specs.Schema.{Schema}
 use Rattle.sqlite.specs.State.{State}
@@ -7,14 +6,11 @@ use Rattle.sqlite.specs.Tree.{Trees}
 use Rattle.sqlite_catalog.specs.Listing.{IsSound}
 use Rattle.store_tables.specs.Contents as of_schema
 use Rattle.store_tables.specs.Contents.{Content, AreStored}
-use Rattle.store_tables.specs.Cells.{event_cells}
 use Rattle.store_tables.specs.Placed.{HasTablesOf, by_club, club_trees}
 use Rattle.store_tables.specs.Tables.{schema_of}
-use Rattle.store_tables.specs.declared.rows.EventRow.{EventRow}
 use Rattle.store_tables.specs.declared.names.Version.{Version}
 use Rattle.club_rows.specs.Club.{ClubState}
 use Rattle.club_rows.specs.FirstSchema.{IsClubOf, tables_at}
-use Rattle.club_rows.specs.Tables.{event_row, numbered_from}
 
 -- the database has these rows in the tables of this version, alone or beside foreign tables
 pub record HoldsRows (version : Version) (content : Content) (db : Database) : Type 0 where
@@ -33,10 +29,6 @@ pub record LeavesRows (version : Version) (content : Content) (trees : Trees) : 
 abbrev pub HasClub : Version → Database → ClubState → Type 0
 HasClub version db s = HoldsRows version (tables_at version s) db
 
--- the connection has exactly the tables of this club, and so does whatever a crash leaves
-abbrev pub IsExactlyClub : Version → ClubState → State → Type 0
-IsExactlyClub version s = of_schema.IsExactly (schema_of version) (tables_at version s)
-
 -- a connection that was just opened over the tables of this version
 abbrev pub IsOpenedAt : Version → State → Type 0
 IsOpenedAt version = of_schema.IsOpened (schema_of version)
@@ -44,8 +36,3 @@ IsOpenedAt version = of_schema.IsOpened (schema_of version)
 -- no legal club has the tables of the database, in any version
 abbrev pub IsNoClub : Database → Type 0
 IsNoClub db = (version : Version) (s : ClubState) → IsClubOf version s → ¬ HasClub version db s
-
--- the rows of events of any club whose tables the database has
-abbrev pub HasEvents : List EventRow → Database → Type 0
-HasEvents rows db = (version : Version) (s : ClubState) → IsClubOf version s → HasClub version db s
-    → map event_cells rows ≡ numbered_from event_row 1 s.events

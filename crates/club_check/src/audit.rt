@@ -1,13 +1,13 @@
 //! The checks on the tables that are read whole: challenges, games and `meta`.
 
 ghost use Rattle.std.specs.Prelude.{◌≡◌, ◌≢◌, ◌≤◌, ℕ, pos, None, Some, IfErr, IfOk, OnOk, List};
-ghost use Rattle.club_audit.specs.Audit.{AreApartGames, HasPeople};
-ghost use Rattle.club_audit.specs.ChallengeAudit.{AreChallenges};
+ghost use Rattle.club_audit.specs.internal.Audit.{AreApartGames, HasPeople};
+ghost use Rattle.club_audit.specs.internal.ChallengeAudit.{AreChallenges};
 ghost use Rattle.club_core.specs.declared.challenges.Challenge.{Challenge};
 ghost use Rattle.club_rows.specs.Club.{ClubState};
-ghost use Rattle.club_check.specs.Places.{BlamesRows, IsNoRegister, last_moment};
-ghost use Rattle.club_check.specs.Examined.{IsAfter};
-ghost use Rattle.club_check.specs.RightTables.{IsLater, NamesChallenges};
+ghost use Rattle.club_check.specs.internal.Places.{BlamesRows, IsNoRegister, last_moment};
+ghost use Rattle.club_check.specs.internal.Examined.{IsAfter};
+ghost use Rattle.club_check.specs.internal.RightTables.{IsLater, NamesChallenges};
 
 use crate::fault::OpenFault;
 use club_audit::{are_apart, are_challenges};

@@ -23,7 +23,8 @@ use Rattle.club_core.specs.Game.{Game, Clocks, turns, spend, spend_all, moves_of
 use Rattle.club_core.specs.Game.{end_of, turn_of, result_of, end_with, score_with, left_of, side_after, game_at}
 use Rattle.club_core.specs.Legal.{IsLegalGame}
 use Rattle.club_core.specs.Step.{played, move_at, repeat_of, reply_of_move, reads_as}
-use Rattle.club_core.specs.View.{IsAsked, rule_in}
+use Rattle.club_core.specs.View.{IsAsked}
+use Rattle.club_core.specs.internal.View.{rule_in}
 
 -- one more move spends from the side whose turn it is
 pub spend_all-append : (increment : ℕ) (s : Side) (ms : List ℕ) (m : ℕ) (c : Clocks)

@@ -10,7 +10,8 @@ use Rattle.club_requests.specs.Limits.{most_plies}
 use Rattle.club_core.specs.declared.rows.GameEnd.TheVariants.{Rule}
 use Rattle.club_core.specs.Game.{Game, moves_of, last_position, rule_end}
 use Rattle.club_core.specs.Step.{played}
-use Rattle.club_core.specs.View.{CanGrow, track_of_game, rule_in}
+use Rattle.club_core.specs.View.{CanGrow, track_of_game}
+use Rattle.club_core.specs.internal.View.{rule_in}
 use Rattle.club_core.proofs.PlayedLines.{IsPlayedLine-append}
 use Rattle.club_core.proofs.Played.{moves_of-played, last-played}
 

@@ -1,15 +1,11 @@
 -- Maps the values of the code to those of the specification: answers, members, events and requests.
-use Rattle.std.specs.Prelude.{List, map, true, string_bytes}
+use Rattle.std.specs.Prelude.{true, string_bytes}
 use Rattle.club_requests.specs.declared.answers.MoveAnswer.{MoveAnswer}
 use Rattle.club_requests.specs.declared.answers.Answer.{Answer}
 use Rattle.club_requests.specs.declared.answers.Answer.TheVariants as answer
 use Rattle.club_requests.specs.declared.answers.Outcome as given_outcome
 use Rattle.club_requests.specs.declared.answers.Outcome.TheVariants as given
 use Rattle.club_core.specs.declared.challenges.Challenge.{Challenge}
-use Rattle.club_core.specs.declared.challenges.ChallengeDecision.{ChallengeDecision}
-use Rattle.club_core.specs.declared.challenges.ChallengeDecision.TheVariants as challenge
-use Rattle.club_core.specs.declared.members.Member as given_member
-use Rattle.club_core.specs.declared.events.Event as given_event
 use Rattle.club_requests.specs.declared.requests.AddEvent as given_command
 use Rattle.club_requests.specs.declared.requests.Command as given_commands
 use Rattle.club_requests.specs.declared.requests.Command.TheVariants as given_is
@@ -19,15 +15,12 @@ use Rattle.club_requests.specs.declared.requests.Request as given_request
 use Rattle.club_requests.specs.declared.requests.Import as given_import
 use Rattle.club_requests.specs.declared.requests.Who as given_who
 use Rattle.club_requests.specs.declared.requests.Who.TheVariants as given_who_is
-use Rattle.club_core.specs.declared.seats.SeatDecision as given_seating
-use Rattle.club_core.specs.declared.seats.SeatDecision.TheVariants as seating
 use Rattle.club_requests.specs.Outcome.{Reply, MoveReply, member_added, event_added, game_seated, moved, draw_offered}
 use Rattle.club_requests.specs.Outcome.{game_ended, games_swept, challenge_opened, challenge_withdrawn}
 use Rattle.club_requests.specs.Outcome.{challenge_refused}
 use Rattle.club_requests.specs.Outcome.{challenge_accepted, Outcome, accepted, repeated, refused, map_outcome}
 use Rattle.club_core.specs.Members.{Member}
 use Rattle.club_core.specs.Events.{Event}
-use Rattle.club_core.specs.declared.seats.Pairing.{Pairing}
 use Rattle.club_core.specs.Imports.{Import}
 use Rattle.club_core.specs.Step.{GameCommand, move, offer_draw, accept_draw, resign, claim_time, declare}
 use Rattle.club_core.specs.State.{Command, add_member, add_event, seat, import_record, on_game, sweep, open_challenge}
@@ -62,20 +55,6 @@ outcome_of (given.Refused refusal) = refused refusal
 abbrev pub answered : {S : Type 0} → Outcome S → Outcome (Unit {0})
 answered o = map_outcome (λ _. tt) o
 
-abbrev pub member_of : given_member.Member → Member
-member_of m = record { name = string_bytes m.name; key = string_bytes m.key }
-
-abbrev pub members_of : List given_member.Member → List Member
-members_of ms = map member_of ms
-
-abbrev pub event_of : given_event.Event → Event
-event_of e =
-    record {
-      name = string_bytes e.name;
-      game = e.game;
-      terms = record { budget = e.budget; increment = e.increment; declares = e.declares };
-    }
-
 -- the event that a command adds
 abbrev pub added_event : given_command.AddEvent → Event
 added_event e =
@@ -85,25 +64,10 @@ added_event e =
       terms = record { budget = e.budget; increment = e.increment; declares = true };
     }
 
-abbrev pub events_of : List given_event.Event → List Event
-events_of es = map event_of es
-
 -- the caller of a command, with the key as bytes
 abbrev pub who_of : given_who.Who → Who
 who_of given_who_is.Officer = officer
 who_of (given_who_is.Key key) = key_holder (string_bytes key)
-
--- the outcome of a `seat` command
-abbrev pub seating_of : given_seating.SeatDecision → Outcome Pairing
-seating_of (seating.Starts k) = accepted k.pairing (game_seated k.game)
-seating_of (seating.Repeated id) = repeated (game_seated id)
-seating_of (seating.Refused refusal) = refused refusal
-
--- the outcome of a command on a challenge, with the new challenge
-abbrev pub challenge_outcome_of : ChallengeDecision → Outcome Challenge
-challenge_outcome_of (challenge.Accepted new a) = accepted new (reply_of a)
-challenge_outcome_of (challenge.Repeated a) = repeated (reply_of a)
-challenge_outcome_of (challenge.Refused refusal) = refused refusal
 
 -- a command on a game, with its text as bytes
 abbrev pub game_command_of : given_game.GameCommand → GameCommand

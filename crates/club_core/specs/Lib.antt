@@ -11,3 +11,4 @@ pub mod State
 pub mod Answer
 pub mod View
 pub mod LegalState
+pub mod internal

@@ -7,7 +7,8 @@ ghost use Rattle.club_core.specs.Challenges.{pairing_for, repeat_of_opening, ope
 ghost use Rattle.club_core.specs.Challenges.{opening_step, withdrawal_step, repeat_of_answer, answer_refusal, answers};
 ghost use Rattle.club_core.specs.Challenges.{answer_step};
 ghost use Rattle.club_requests.specs.Outcome.{by_member};
-ghost use Rattle.club_core.specs.Answer.{members_of, events_of, reply_of, challenge_outcome_of};
+ghost use Rattle.club_core.specs.Answer.{reply_of};
+ghost use Rattle.club_core.specs.internal.Answer.{members_of, events_of, challenge_outcome_of};
 
 use crate::events::Event;
 use crate::members::Member;

@@ -5,7 +5,8 @@ ghost use Rattle.club_core.specs.Answer.{game_command_of};
 ghost use Rattle.club_core.specs.Game.{Game};
 ghost use Rattle.club_core.specs.Legal.{IsLegalGame};
 ghost use Rattle.club_core.specs.Step.{may_give, no_game_refusal, asked_ply, caller_side, side_step, game_step};
-ghost use Rattle.club_core.specs.View.{Shows, ShowsPly, IsSound, IsDecision, terms_of};
+ghost use Rattle.club_core.specs.View.{Shows, ShowsPly, IsSound, terms_of};
+ghost use Rattle.club_core.specs.internal.View.{IsDecision};
 
 use crate::decided::Decision;
 use crate::declarations::declare;

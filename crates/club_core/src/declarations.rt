@@ -6,7 +6,8 @@ ghost use Rattle.club_core.specs.Answer.{reply_of};
 ghost use Rattle.club_core.specs.Game.{Game};
 ghost use Rattle.club_core.specs.Legal.{IsLegalGame};
 ghost use Rattle.club_core.specs.Step.{repeat_of_declare, declare_refusal, step_declare};
-ghost use Rattle.club_core.specs.View.{Shows, IsDecision, terms_of};
+ghost use Rattle.club_core.specs.View.{Shows, terms_of};
+ghost use Rattle.club_core.specs.internal.View.{IsDecision};
 
 use crate::decided::Decision;
 use crate::draws::is_next_ply;

@@ -9,7 +9,8 @@ ghost use Rattle.club_core.specs.Legal.{IsLegalGame};
 ghost use Rattle.club_requests.specs.Outcome.{accepted, draw_offered};
 ghost use Rattle.club_core.specs.Step.{has_offer, offered, repeat_of_offer, offer_refusal, step_offer};
 ghost use Rattle.club_core.specs.Step.{repeat_of_accept, accept_refusal, step_accept};
-ghost use Rattle.club_core.specs.View.{Shows, IsSound, IsDecision, terms_of};
+ghost use Rattle.club_core.specs.View.{Shows, IsSound, terms_of};
+ghost use Rattle.club_core.specs.internal.View.{IsDecision};
 
 use crate::decided::Decision;
 use crate::endings::{accept_end, answer_of_end};

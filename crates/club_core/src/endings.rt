@@ -7,7 +7,8 @@ ghost use Rattle.club_core.specs.Game.{Game};
 ghost use Rattle.club_core.specs.Legal.{IsLegalGame};
 ghost use Rattle.club_core.specs.Step.{reply_of_end, ends, repeat_of_resign, resign_refusal, step_resign};
 ghost use Rattle.club_core.specs.Step.{repeat_of_claim, claim_refusal, step_claim};
-ghost use Rattle.club_core.specs.View.{Shows, IsDecision, terms_of};
+ghost use Rattle.club_core.specs.View.{Shows, terms_of};
+ghost use Rattle.club_core.specs.internal.View.{IsDecision};
 
 use crate::decided::Decision;
 use crate::ends::is_ended_by;

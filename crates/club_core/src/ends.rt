@@ -4,7 +4,7 @@ ghost use Rattle.std.specs.Prelude.{◌≡◌};
 ghost use Rattle.std.specs.Option.{option_map};
 ghost use Rattle.club_core.specs.declared.rows.GameEnd.TheVariants.{Rule};
 ghost use Rattle.club_core.specs.Game.{score_with};
-ghost use Rattle.club_core.specs.View.{rule_in, outside_in};
+ghost use Rattle.club_core.specs.internal.View.{rule_in, outside_in};
 ghost use Rattle.club_core.specs.Step.{is_ended_by};
 
 use crate::rows::GameEnd;

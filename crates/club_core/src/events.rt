@@ -7,7 +7,8 @@ ghost use Rattle.club_core.specs.Members.{find_id};
 ghost use Rattle.club_core.specs.Events.{has_event_name, is_event, same_game, has_good_values, event_refusal};
 ghost use Rattle.club_core.specs.Events.{event_declares, event_step};
 ghost use Rattle.club_requests.specs.Outcome.{by_officer};
-ghost use Rattle.club_core.specs.Answer.{event_of, events_of, added_event, outcome_of, answered};
+ghost use Rattle.club_core.specs.Answer.{added_event, outcome_of, answered};
+ghost use Rattle.club_core.specs.internal.Answer.{event_of, events_of};
 
 use crate::ids::id_at;
 use club_requests::values::{MOST_EVENTS, is_budget, is_increment, is_name};

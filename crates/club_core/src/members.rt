@@ -7,7 +7,8 @@ ghost use Rattle.club_requests.specs.Limits.{most_members, is_name, is_member_ke
 ghost use Rattle.club_core.specs.Members.{find_id, is_member, has_name_or_key, member_refusal, member_step};
 ghost use Rattle.club_core.specs.State.{caller_of, has_member_key};
 ghost use Rattle.club_requests.specs.Outcome.{by_officer};
-ghost use Rattle.club_core.specs.Answer.{member_of, members_of, outcome_of, answered, who_of};
+ghost use Rattle.club_core.specs.Answer.{outcome_of, answered, who_of};
+ghost use Rattle.club_core.specs.internal.Answer.{member_of, members_of};
 
 use crate::ids::id_at;
 use club_requests::values::{MOST_MEMBERS, is_member_key, is_name};

@@ -7,7 +7,8 @@ ghost use Rattle.club_core.specs.Answer.{reply_of};
 ghost use Rattle.club_core.specs.Game.{Game, spend, left_of, left_after};
 ghost use Rattle.club_core.specs.Legal.{IsLegalGame};
 ghost use Rattle.club_core.specs.Step.{move_refusal, checked, step_move, repeat_of, move_at, plays, reads_as};
-ghost use Rattle.club_core.specs.View.{Shows, ShowsPly, IsSound, CanPlay, IsDecision, terms_of, clocks_in};
+ghost use Rattle.club_core.specs.View.{Shows, ShowsPly, IsSound, terms_of, clocks_in};
+ghost use Rattle.club_core.specs.internal.View.{CanPlay, IsDecision};
 
 use crate::decided::Decision;
 use crate::ends::{name_of_end, rule_in};

@@ -10,7 +10,7 @@ ghost use Rattle.club_core.specs.Seats.{has_member_name, same_seats, seat_refusa
 ghost use Rattle.club_core.specs.Seats.{are_distinct};
 ghost use Rattle.club_requests.specs.Outcome.{by_officer, game_seated};
 ghost use Rattle.club_core.specs.State.{seated};
-ghost use Rattle.club_core.specs.Answer.{members_of, events_of, seating_of};
+ghost use Rattle.club_core.specs.internal.Answer.{members_of, events_of, seating_of};
 ghost use Rattle.club_core.specs.View.{IsRowOf};
 
 use crate::events::Event;

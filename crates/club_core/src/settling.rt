@@ -1,7 +1,7 @@
 //! The end and the result of a game after a decision.
 
 ghost use Rattle.std.specs.Prelude.{◌≡◌};
-ghost use Rattle.club_core.specs.View.{settled_by, settled_of, answer_with, concluded};
+ghost use Rattle.club_core.specs.internal.View.{settled_by, settled_of, answer_with, concluded};
 
 use crate::decided::Decision;
 use crate::ends::{game_end, name_of_end, rule_in, score_of_end};

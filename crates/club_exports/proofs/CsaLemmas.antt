@@ -1,7 +1,7 @@
 -- Records of shogi, as the writer of CSA games promises them.
 use Rattle.std.proofs.Common.{◌≡◌, ℕ, List, [], ◌∷◌, ◌++◌, Option, Some, refl, sym, ◌∙◌}
 use Rattle.std.proofs.Common.{append_assoc, append-nil}
-use Rattle.record_writer.specs.PieceLaws.{begun-whole}
+use Rattle.record_writer.specs.internal.PieceLaws.{begun-whole}
 use Rattle.squares.specs.declared.shogi.moves.SMove.{SMove}
 use Rattle.shogi_moves.proofs.Proved.{can_declare-is}
 use Rattle.shogi_repetition.specs.declared.ends.SEnd.{SEnd}
@@ -13,11 +13,13 @@ use Rattle.csa.specs.declared.head.CsaEnd.TheVariants as csa_end
 use Rattle.csa.specs.declared.head.CsaHead.{CsaHead}
 use Rattle.csa.specs.declared.game_writer.GameWriter.{GameWriter}
 use Rattle.csa.specs.WrittenGame.{IsGameText}
-use Rattle.csa.specs.Writer.{lines_text, text_up_to, HasBegun, AddsEntry, BeginsEntry, BeginsGame}
-use Rattle.csa.specs.Writer.{MayEnd, Finishes, BeginsEnd, LinesBeginGames, MovesBeginGames}
+use Rattle.csa.specs.internal.Writer.{lines_text, text_up_to, HasBegun, AddsEntry, BeginsEntry, BeginsGame}
+use Rattle.csa.specs.internal.Writer.{MayEnd, Finishes, BeginsEnd, LinesBeginGames, MovesBeginGames}
 use Rattle.club_exports.specs.Title.{Title}
-use Rattle.club_exports.specs.Written.{made_in, FitsMoves, AddsRecord, BeginsRecord}
-use Rattle.club_exports.specs.CsaRecords.{end_told, IsCsaText, IsCsaHead, HasWrittenCsa}
+use Rattle.club_exports.specs.Written.{made_in}
+use Rattle.club_exports.specs.internal.Written.{FitsMoves, AddsRecord, BeginsRecord}
+use Rattle.club_exports.specs.CsaRecords.{end_told, IsCsaText}
+use Rattle.club_exports.specs.internal.CsaRecords.{IsCsaHead, HasWrittenCsa}
 
 module _ {title : Title SEnd} {head : CsaHead} (is : IsCsaHead title head) where
   -- the text of a game with the title's head is the record

@@ -5,9 +5,10 @@ use Rattle.std.proofs.lemmas.Option.{same_Some}
 use Rattle.club_rules.specs.GameRules.{GameRules}
 use Rattle.club_rules.proofs.Proved.{position_after-append}
 use Rattle.club_core.specs.Game.{Entry}
-use Rattle.club_exports.specs.Title.{Title, timed, since_after}
-use Rattle.club_exports.specs.Written.{BeginsRecord, BeginsGames, MayFollowLegal}
-use Rattle.club_exports.specs.Exported.{IsWritten, IsNextText}
+use Rattle.club_exports.specs.Title.{Title, timed}
+use Rattle.club_exports.specs.internal.Title.{since_after}
+use Rattle.club_exports.specs.internal.Written.{BeginsRecord, BeginsGames, MayFollowLegal}
+use Rattle.club_exports.specs.internal.Exported.{IsWritten, IsNextText}
 use Rattle.club_exports.specs.declared.export.Export.{Export}
 use Rattle.club_exports.proofs.Timed.{timed-append, since-last, timed-made, timed-count}
 

@@ -2,17 +2,19 @@
 use Rattle.std.proofs.Common.{◌≡◌, ℕ, List, [], ◌∷◌, ◌++◌, Option, refl, sym, ◌∙◌, append_assoc}
 use Rattle.std.proofs.lemmas.List.{map-append}
 use Rattle.record_writer.specs.Pieces.{AppendsSome}
-use Rattle.record_writer.specs.PieceLaws.{begun-whole}
+use Rattle.record_writer.specs.internal.PieceLaws.{begun-whole}
 use Rattle.squares.specs.declared.draughts.moves.DMove.{DMove}
 use Rattle.draughts_draws.specs.declared.ends.DEnd.{DEnd}
 use Rattle.pdn_games.specs.declared.head.PdnHead.{PdnHead}
 use Rattle.pdn_games.specs.declared.game_writer.GameWriter.{GameWriter}
 use Rattle.pdn_games.specs.Writing.{game_text}
-use Rattle.pdn_games.specs.Writer.{tags_text, text_up_to, whole_text, AddsMove, BeginsMove, Finishes}
-use Rattle.pdn_games.specs.Writer.{BeginsEnd, TagsBeginGames, MovesBeginGames}
+use Rattle.pdn_games.specs.internal.Writer.{tags_text, text_up_to, whole_text, AddsMove, BeginsMove, Finishes}
+use Rattle.pdn_games.specs.internal.Writer.{BeginsEnd, TagsBeginGames, MovesBeginGames}
 use Rattle.club_exports.specs.Title.{Title}
-use Rattle.club_exports.specs.Written.{made_in, AddsRecord, BeginsRecord}
-use Rattle.club_exports.specs.PdnRecords.{IsPdnText, IsPdnHead, HasWrittenPdn}
+use Rattle.club_exports.specs.Written.{made_in}
+use Rattle.club_exports.specs.internal.Written.{AddsRecord, BeginsRecord}
+use Rattle.club_exports.specs.PdnRecords.{IsPdnText}
+use Rattle.club_exports.specs.internal.PdnRecords.{IsPdnHead, HasWrittenPdn}
 
 made-more : (plies more : List (DMove × ℕ)) → made_in plies ++ made_in more ≡ made_in (plies ++ more)
 made-more plies more = sym (map-append (λ p. p.0) plies more)

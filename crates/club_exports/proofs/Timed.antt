@@ -1,7 +1,8 @@
 -- Entries as moves with their seconds.
 use Rattle.std.proofs.Common.{◌≡◌, ℕ, suc, ◌-◌, List, [], ◌∷◌, ◌++◌, length, map, refl, ap}
 use Rattle.club_core.specs.Game.{Entry}
-use Rattle.club_exports.specs.Title.{timed, since_after}
+use Rattle.club_exports.specs.Title.{timed}
+use Rattle.club_exports.specs.internal.Title.{since_after}
 use Rattle.club_exports.specs.Written.{made_in}
 
 module _ {M : Type 0} where

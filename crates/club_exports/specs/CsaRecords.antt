@@ -1,5 +1,5 @@
 -- The CSA record of a game of shogi.
-use Rattle.std.specs.Prelude.{◌≡◌, ℕ, List, Option, Some, None}
+use Rattle.std.specs.Prelude.{ℕ, List, Option, Some, None}
 use Rattle.squares.specs.declared.sides.Score.TheVariants.{Draw}
 use Rattle.squares.specs.declared.shogi.moves.SMove.{SMove}
 use Rattle.shogi_repetition.specs.declared.ends.SEnd.{SEnd}
@@ -8,9 +8,6 @@ use Rattle.club_core.specs.declared.rows.GameEnd.TheVariants as by
 use Rattle.club_requests.specs.declared.outside_end.OutsideEnd.TheVariants as outside
 use Rattle.csa.specs.declared.head.CsaEnd.{CsaEnd}
 use Rattle.csa.specs.declared.head.CsaEnd.TheVariants as csa_end
-use Rattle.csa.specs.declared.head.CsaHead.{CsaHead}
-use Rattle.csa.specs.declared.game_writer.GameWriter.{GameWriter}
-use Rattle.csa.specs.Writer.{HasWritten}
 use Rattle.csa.specs.WrittenGame.{IsGameText}
 use Rattle.club_exports.specs.Title.{Title}
 
@@ -31,18 +28,3 @@ end_told (Some end) = Some (told_end end)
 -- the record's text; First is Black
 abbrev pub IsCsaText : Title SEnd → List (SMove × ℕ) → List ℕ → Type 0
 IsCsaText title plies text = IsGameText title.event title.first title.second title.start (end_told title.end) plies text
-
--- the data of the CSA header
-pub record IsCsaHead (title : Title SEnd) (head : CsaHead) : Type 0 where
-  pub event : head.event.now ≡ title.event
-  pub black : head.black.now ≡ title.first
-  pub white : head.white.now ≡ title.second
-  pub start : head.start ≡ title.start
-  pub end : head.end ≡ end_told title.end
-
--- the header and the moves were written
-pub record HasWrittenCsa (title : Title SEnd) (plies : List (SMove × ℕ)) (before now : Option (List ℕ))
-    (game : GameWriter) : Type 0 where
-  pub head : CsaHead
-  pub is_head : IsCsaHead title head
-  pub written : HasWritten head plies before now game

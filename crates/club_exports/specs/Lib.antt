@@ -2,5 +2,4 @@ pub mod Title
 pub mod Written
 pub mod PdnRecords
 pub mod CsaRecords
-pub mod Exported
-pub mod RecordLaws
+pub mod internal

@@ -1,13 +1,10 @@
 -- The PDN record of a game of draughts.
-use Rattle.std.specs.Prelude.{◌≡◌, ℕ, List, Option}
+use Rattle.std.specs.Prelude.{◌≡◌, ℕ, List}
 use Rattle.clocks.specs.declared.dates.CivilTime.{CivilTime}
 use Rattle.clocks.specs.Civil.{IsCivil}
 use Rattle.squares.specs.declared.draughts.moves.DMove.{DMove}
 use Rattle.draughts_draws.specs.declared.ends.DEnd.{DEnd}
-use Rattle.pdn_games.specs.declared.head.PdnHead.{PdnHead}
-use Rattle.pdn_games.specs.declared.game_writer.GameWriter.{GameWriter}
 use Rattle.pdn_games.specs.Writing.{game_text}
-use Rattle.pdn_games.specs.Writer.{HasWritten}
 use Rattle.club_exports.specs.Title.{Title}
 use Rattle.club_exports.specs.Written.{made_in}
 
@@ -16,18 +13,3 @@ pub record IsPdnText (title : Title DEnd) (plies : List (DMove × ℕ)) (text : 
   pub at : CivilTime
   pub shown : IsCivil title.start at
   pub written : text ≡ game_text title.event at title.first title.second title.result (made_in plies)
-
--- the PDN tags of the game; First is White
-pub record IsPdnHead (title : Title DEnd) (head : PdnHead) : Type 0 where
-  pub event : head.event.now ≡ title.event
-  pub white : head.white.now ≡ title.first
-  pub black : head.black.now ≡ title.second
-  pub score : head.score ≡ title.result
-  pub shown : IsCivil title.start head.date
-
--- the tags and the moves were written
-pub record HasWrittenPdn (title : Title DEnd) (plies : List (DMove × ℕ)) (before now : Option (List ℕ))
-    (game : GameWriter) : Type 0 where
-  pub head : PdnHead
-  pub is_head : IsPdnHead title head
-  pub written : HasWritten head (made_in plies) before now game

@@ -3,7 +3,6 @@ use Rattle.std.specs.Prelude.{ℕ, ◌-◌, List, [], ◌∷◌, Option}
 use Rattle.squares.specs.declared.sides.Score.{Score}
 use Rattle.club_core.specs.declared.rows.GameEnd.{GameEnd}
 use Rattle.club_core.specs.Game.{Entry}
-use Rattle.club_exports.specs.declared.heading.RecordHeader.{RecordHeader}
 
 -- names of the event and the players, timestamp of the start, and end and score (none while the game is running)
 pub record Title (E : Type 0) : Type 0 where
@@ -14,23 +13,7 @@ pub record Title (E : Type 0) : Type 0 where
   pub end : Option (GameEnd E)
   pub result : Option Score
 
-abbrev pub title_of : {E : Type 0} → RecordHeader E → Title E
-title_of h =
-    record {
-      event = h.event.now;
-      first = h.first.now;
-      second = h.second.now;
-      start = h.start;
-      end = h.end;
-      result = h.result;
-    }
-
 -- the moves of entries, each with the seconds since the previous one
 abbrev pub timed : {M : Type 0} → ℕ → List (Entry M) → List (M × ℕ)
 timed since [] = []
 timed since (e ∷ es) = (e.made, e.moment - since) ∷ timed e.moment es
-
--- the timestamp of the last entry, or of the start
-abbrev pub since_after : {M : Type 0} → ℕ → List (Entry M) → ℕ
-since_after since [] = since
-since_after since (e ∷ es) = since_after e.moment es

@@ -1,7 +1,7 @@
 //! Draughts records in Portable Draughts Notation (PDN).
 
-ghost use Rattle.club_exports.specs.Title.{title_of};
-ghost use Rattle.club_exports.specs.PdnRecords.{IsPdnHead};
+ghost use Rattle.club_exports.specs.internal.Title.{title_of};
+ghost use Rattle.club_exports.specs.internal.PdnRecords.{IsPdnHead};
 
 use crate::exports::WriteRecord;
 use crate::heading::RecordHeader;
@@ -31,9 +31,10 @@ fn head_of<'a>(heading: &RecordHeader<'a, DEnd>) -> PdnHead<'a>
 impl WriteRecord for Draughts {
     type Record = GameWriter;
 
-    ghost use Rattle.club_exports.specs.PdnRecords.{IsPdnText, HasWrittenPdn};
-    ghost use Rattle.club_exports.specs.RecordLaws.{pdn-may_follow};
-    ghost use Rattle.pdn_games.specs.Writer.{MayFollow};
+    ghost use Rattle.club_exports.specs.PdnRecords.{IsPdnText};
+    ghost use Rattle.club_exports.specs.internal.PdnRecords.{HasWrittenPdn};
+    ghost use Rattle.club_exports.specs.internal.RecordLaws.{pdn-may_follow};
+    ghost use Rattle.pdn_games.specs.internal.Writer.{MayFollow};
 
     ghost IsText = { IsPdnText };
 

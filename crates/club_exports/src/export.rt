@@ -4,9 +4,10 @@ ghost use Rattle.std.specs.Prelude.{◌≡◌, ◌<◌, ℕ, [], ◌∷◌, ◌+
 ghost use Rattle.std.specs.Prelude.{length, map, true};
 ghost use Rattle.club_core.specs.Game.{Entry};
 ghost use Rattle.club_requests.specs.Limits.{most_plies};
-ghost use Rattle.club_exports.specs.Title.{Title, title_of, timed};
-ghost use Rattle.club_exports.specs.Written.{FitsMoves, BeginsRecord, AddsRecord};
-ghost use Rattle.club_exports.specs.Exported.{IsWritten, IsUnderWay, IsNextText};
+ghost use Rattle.club_exports.specs.Title.{Title, timed};
+ghost use Rattle.club_exports.specs.internal.Title.{title_of};
+ghost use Rattle.club_exports.specs.internal.Written.{FitsMoves, BeginsRecord, AddsRecord};
+ghost use Rattle.club_exports.specs.internal.Exported.{IsWritten, IsUnderWay, IsNextText};
 
 use crate::exports::WriteRecord;
 use crate::heading::RecordHeader;

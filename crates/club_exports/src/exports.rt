@@ -1,8 +1,11 @@
 //! The trait of a game whose records can be written.
 
 ghost use Rattle.std.specs.Prelude.{◌≡◌, ℕ, ◌∷◌, [], ◌++◌, List, Option, IfOk, OnOk, true};
-ghost use Rattle.club_exports.specs.Title.{Title, title_of};
-ghost use Rattle.club_exports.specs.Written.{made_in, FitsMoves, BeginsRecord, AddsRecord, MayFollowLegal, BeginsGames};
+ghost use Rattle.club_exports.specs.Title.{Title};
+ghost use Rattle.club_exports.specs.internal.Title.{title_of};
+ghost use Rattle.club_exports.specs.Written.{made_in};
+ghost use Rattle.club_exports.specs.internal.Written.{FitsMoves, BeginsRecord, AddsRecord, MayFollowLegal};
+ghost use Rattle.club_exports.specs.internal.Written.{BeginsGames};
 
 use crate::heading::RecordHeader;
 use club_rules::Rules;

@@ -3,8 +3,8 @@
 ghost use Rattle.std.specs.Prelude.{ℕ, ◌++◌, List, Option};
 ghost use Rattle.club_core.specs.Game.{Entry};
 ghost use Rattle.club_exports.specs.Title.{Title, timed};
-ghost use Rattle.club_exports.specs.Written.{BeginsRecord};
-ghost use Rattle.club_exports.specs.Exported.{IsWritten};
+ghost use Rattle.club_exports.specs.internal.Written.{BeginsRecord};
+ghost use Rattle.club_exports.specs.internal.Exported.{IsWritten};
 
 use crate::export::Export;
 use crate::exports::WriteRecord;

@@ -3,8 +3,9 @@
 
 ghost use Rattle.std.specs.Prelude.{◌≡◌};
 ghost use Rattle.club_core.specs.declared.rows.GameEnd.TheVariants as by;
-ghost use Rattle.club_exports.specs.Title.{title_of};
-ghost use Rattle.club_exports.specs.CsaRecords.{IsCsaHead, end_told, told_end};
+ghost use Rattle.club_exports.specs.internal.Title.{title_of};
+ghost use Rattle.club_exports.specs.CsaRecords.{end_told, told_end};
+ghost use Rattle.club_exports.specs.internal.CsaRecords.{IsCsaHead};
 
 use crate::exports::WriteRecord;
 use crate::heading::RecordHeader;
@@ -58,9 +59,10 @@ fn head_of<'a>(heading: &RecordHeader<'a, SEnd>) -> CsaHead<'a>
 impl WriteRecord for Shogi {
     type Record = GameWriter;
 
-    ghost use Rattle.club_exports.specs.CsaRecords.{IsCsaText, HasWrittenCsa};
-    ghost use Rattle.club_exports.specs.RecordLaws.{csa-may_follow};
-    ghost use Rattle.csa.specs.Writer.{MayFollow};
+    ghost use Rattle.club_exports.specs.CsaRecords.{IsCsaText};
+    ghost use Rattle.club_exports.specs.internal.CsaRecords.{HasWrittenCsa};
+    ghost use Rattle.club_exports.specs.internal.RecordLaws.{csa-may_follow};
+    ghost use Rattle.csa.specs.internal.Writer.{MayFollow};
 
     ghost IsText = { IsCsaText };
 

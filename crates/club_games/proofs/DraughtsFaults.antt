@@ -4,12 +4,13 @@ use Rattle.squares.specs.declared.draughts.moves.DMove.{DMove}
 use Rattle.squares.specs.DraughtsBoard.{Position}
 use Rattle.draughts_moves.specs.declared.checking.Illegal.{Illegal}
 use Rattle.game_history.specs.declared.faults.LineFault.TheVariants as line_fault
-use Rattle.draughts_draws.specs.Faults.{HasFault}
+use Rattle.draughts_draws.specs.internal.Faults.{HasFault}
 use Rattle.pdn.specs.declared.faults.FenFault.TheVariants as fen_fault
 use Rattle.pdn.specs.declared.faults.MoveFault.{MoveFault}
 use Rattle.pdn.specs.declared.faults.MoveFault.TheVariants as fault
-use Rattle.pdn.specs.MoveValue.{move_reading}
-use Rattle.pdn.specs.ReadFen.{IsFen, HasFenFault}
+use Rattle.pdn.specs.internal.MoveValue.{move_reading}
+use Rattle.pdn.specs.ReadFen.{IsFen}
+use Rattle.pdn.specs.internal.ReadFen.{HasFenFault}
 use Rattle.pdn.specs.ReadMove.{HasReadFault}
 use Rattle.pdn.proofs.Proved.{reading-err, fen-well}
 use Rattle.club_rules.specs.Line.{IsPlayedLine}

@@ -1,3 +1,3 @@
 -- What is proved of records, for the proofs of crates above.
-pub use Rattle.club_games.specs.CsaOnly.{csa-part}
-pub use Rattle.club_games.specs.PdnOnly.{pdn-part}
+pub use Rattle.club_games.specs.internal.CsaOnly.{csa-part}
+pub use Rattle.club_games.specs.internal.PdnOnly.{pdn-part}

@@ -5,11 +5,11 @@ use Rattle.squares.specs.ShogiSets.{ShogiPosition}
 use Rattle.shogi_moves.specs.declared.checking.Illegal.{Illegal}
 use Rattle.shogi_moves.proofs.Proved.{check_of-refused}
 use Rattle.game_history.specs.declared.faults.LineFault.TheVariants as line_fault
-use Rattle.shogi_repetition.specs.Computed.{end_of}
-use Rattle.shogi_repetition.specs.Faults.{HasFault}
+use Rattle.shogi_repetition.specs.internal.Computed.{end_of}
+use Rattle.shogi_repetition.specs.internal.Faults.{HasFault}
 use Rattle.shogi_repetition.proofs.Proved.{one-end, end_of-is}
 use Rattle.sfen.specs.UsiReading.{usi_reading, usi_reach}
-use Rattle.sfen.specs.UsiText.{IsNoUsi}
+use Rattle.sfen.specs.internal.UsiText.{IsNoUsi}
 use Rattle.sfen.proofs.Proved.{refused-here}
 use Rattle.club_rules.specs.declared.names.GameKind.TheVariants as game
 use Rattle.club_rules.specs.declared.refusals.MoveRefusal.TheVariants.{BadText}

@@ -3,7 +3,7 @@ use Rattle.std.specs.Prelude.{ℕ, List}
 use Rattle.squares.specs.declared.draughts.moves.DMove.{DMove}
 use Rattle.club_rules.specs.declared.records.RecordFormat.TheVariants.{Pdn}
 use Rattle.club_rules.specs.Records.{Reading, GameRecords}
-use Rattle.club_games.specs.PdnOnly.{pdn-part}
+use Rattle.club_games.specs.internal.PdnOnly.{pdn-part}
 use Rattle.club_games.specs.PdnRecord.{IsPdnPart}
 use Rattle.squares.specs.TheOnly.{TheOnly}
 

@@ -21,7 +21,6 @@ use Rattle.shogi_repetition.specs.declared.tails.Tail.{Tail}
 use Rattle.shogi_repetition.specs.Ends.{outcome_of}
 use Rattle.shogi_repetition.specs.Tails.{no_checks, next_tail, end_by}
 use Rattle.shogi_repetition.proofs.Proved.{line-end}
-use Rattle.sfen.specs.SfenGrammar.{IsSfenText}
 use Rattle.sfen.specs.SfenText.{position_text}
 use Rattle.sfen.specs.UsiReading.{usi_reach, usi_reading}
 use Rattle.sfen.specs.UsiText.{usi_text}
@@ -60,10 +59,6 @@ refusal_of illegal.DropMate = DropMate
 abbrev pub move_read : Option SMove → ℕ → Result SMove MoveRefusal
 move_read (Some m) reach = Ok m
 move_read None reach = Err (BadText game.Shogi reach)
-
--- the text is the SFEN of the position, with any move number
-abbrev pub IsPositionText : List ℕ → ShogiPosition → Type 0
-IsPositionText text p = (number : ℕ) × IsSfenText text p number
 
 -- equality of kinds of pieces, as `==` computes it
 abbrev pub same_kind : HandKind → HandKind → Bool

@@ -3,7 +3,7 @@ use Rattle.std.specs.Prelude.{ℕ, List}
 use Rattle.squares.specs.declared.shogi.moves.SMove.{SMove}
 use Rattle.club_rules.specs.declared.records.RecordFormat.TheVariants.{Csa}
 use Rattle.club_rules.specs.Records.{Reading, GameRecords}
-use Rattle.club_games.specs.CsaOnly.{csa-part}
+use Rattle.club_games.specs.internal.CsaOnly.{csa-part}
 use Rattle.club_games.specs.CsaRecord.{IsCsaPart}
 use Rattle.squares.specs.TheOnly.{TheOnly}
 

@@ -35,7 +35,7 @@ impl Rules for Draughts {
     type Track = Tail;
 
     ghost use Rattle.pdn.specs.ReadFen.{IsFen};
-    ghost use Rattle.club_games.specs.DraughtsLaws as laws;
+    ghost use Rattle.club_games.specs.internal.DraughtsLaws as laws;
 
     ghost rules = { draughts };
 

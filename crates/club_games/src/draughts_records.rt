@@ -1,8 +1,8 @@
 //! Records of draughts games, in Portable Draughts Notation (PDN).
 
 ghost use Rattle.std.specs.Prelude.{◌≡◌, ◌≢◌, IfOk};
-ghost use Rattle.club_rules.specs.Records.{recorded_of};
-ghost use Rattle.club_games.specs.PdnReading.{game_of};
+ghost use Rattle.club_rules.specs.internal.Records.{recorded_of};
+ghost use Rattle.club_games.specs.internal.PdnReading.{game_of};
 ghost use Rattle.club_games.specs.PdnRecord.{pdn_refusal};
 
 use crate::draughts::{Draughts, refusal_of};
@@ -49,7 +49,7 @@ fn game_of(game: PdnGame) -> RecordedGame<DMove>
 }
 
 impl Records for Draughts {
-    ghost use Rattle.club_games.specs.PdnLaws.{draughts-reads_games};
+    ghost use Rattle.club_games.specs.internal.PdnLaws.{draughts-reads_games};
     ghost use Rattle.club_games.specs.DraughtsRecords.{draughts_records};
 
     ghost records = { draughts_records };

@@ -44,8 +44,8 @@ impl Rules for Shogi {
 
     type Track = Tail;
 
-    ghost use Rattle.club_games.specs.Shogi.{IsPositionText};
-    ghost use Rattle.club_games.specs.ShogiLaws as laws;
+    ghost use Rattle.club_games.specs.internal.Shogi.{IsPositionText};
+    ghost use Rattle.club_games.specs.internal.ShogiLaws as laws;
 
     ghost rules = { shogi };
 

@@ -1,8 +1,8 @@
 //! Records of shogi games, in the format of the Computer Shogi Association (CSA).
 
 ghost use Rattle.std.specs.Prelude.{◌≡◌, ◌≢◌, IfOk, map, slice_get};
-ghost use Rattle.club_rules.specs.Records.{reading_of};
-ghost use Rattle.club_games.specs.CsaReading.{game_of, found_game};
+ghost use Rattle.club_rules.specs.internal.Records.{reading_of};
+ghost use Rattle.club_games.specs.internal.CsaReading.{game_of, found_game};
 ghost use Rattle.club_games.specs.CsaRecord.{csa_refusal};
 
 use crate::shogi::{Shogi, refusal_of};
@@ -53,7 +53,7 @@ fn game_after(before: u64, games: Vec<CsaGame>) -> RecordReading<SMove>
 }
 
 impl Records for Shogi {
-    ghost use Rattle.club_games.specs.CsaLaws.{shogi-reads_games};
+    ghost use Rattle.club_games.specs.internal.CsaLaws.{shogi-reads_games};
     ghost use Rattle.club_games.specs.ShogiRecords.{shogi_records};
 
     ghost records = { shogi_records };

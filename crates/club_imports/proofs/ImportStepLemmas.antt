@@ -9,7 +9,7 @@ use Rattle.club_core.specs.Imports.{Import, Imported, reading_of_import, repeat_
 use Rattle.club_core.specs.Imports.{import_between, import_step}
 use Rattle.club_requests.specs.Outcome.{Reply, Outcome, repeated, refused, unless, unless_repeat}
 use Rattle.club_core.specs.declared.seats.KeyedGame.{KeyedGame}
-use Rattle.club_imports.specs.Importing.{IsByRules}
+use Rattle.club_imports.specs.internal.Importing.{IsByRules}
 
 -- the order, over plain outcomes
 repeats-first : {S : Type 0} (repeat : Option Reply) (x : Outcome S) (reply : Reply) → Some reply ≡ repeat

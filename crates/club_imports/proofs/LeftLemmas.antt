@@ -7,7 +7,7 @@ use Rattle.squares.specs.Sides.{other}
 use Rattle.club_core.specs.Game.{Clocks, turns, spend, spend_all}
 use Rattle.club_core.proofs.Proved.{spend_all-append, turns-other}
 use Rattle.club_laws.proofs.Proved.{entries_at}
-use Rattle.club_imports.specs.OneMoment.{at_moment, clocks_with}
+use Rattle.club_imports.specs.internal.OneMoment.{at_moment, clocks_with}
 
 next-one : (moment n : ℕ) → at_moment moment (suc n) ≡ at_moment moment n ++ moment ∷ []
 next-one moment zero = refl

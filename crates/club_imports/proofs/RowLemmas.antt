@@ -11,7 +11,7 @@ use Rattle.club_core.specs.Imports.{recorded_end, imported}
 use Rattle.club_core.specs.declared.seats.Pairing.{Pairing}
 use Rattle.club_core.specs.View.{track_of_game}
 use Rattle.club_laws.proofs.Proved.{made-again, imported-result}
-use Rattle.club_imports.specs.OneMoment.{at_moment, clocks_with}
+use Rattle.club_imports.specs.internal.OneMoment.{at_moment, clocks_with}
 use Rattle.club_imports.proofs.LeftLemmas.{moments-at}
 
 module _ {P M E T : Type 0} (rules : GameRules P M E T) (key : Option (List ℕ)) (pairing : Pairing) (moment : ℕ)

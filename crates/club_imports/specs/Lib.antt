@@ -1,2 +1,1 @@
-pub mod Importing
-pub mod OneMoment
+pub mod internal

@@ -2,8 +2,10 @@
 
 ghost use Rattle.std.specs.Prelude.{◌≡◌, ◌≤◌, ◌<◌, ℕ, length, Option, IfOk, IfNone, string_bytes};
 ghost use Rattle.std.specs.Option.{option_map};
-ghost use Rattle.club_rules.specs.Records.{recorded_of, reading_of, IsGameByRules};
-ghost use Rattle.club_core.specs.Answer.{members_of, events_of, import_of};
+ghost use Rattle.club_rules.specs.Records.{IsGameByRules};
+ghost use Rattle.club_rules.specs.internal.Records.{recorded_of, reading_of};
+ghost use Rattle.club_core.specs.Answer.{import_of};
+ghost use Rattle.club_core.specs.internal.Answer.{members_of, events_of};
 ghost use Rattle.club_core.specs.Events.{has_event_name, event_declares};
 ghost use Rattle.club_core.specs.Game.{Game};
 ghost use Rattle.club_core.specs.Imports.{same_format, has_part, reading_of_import, repeat_of_import, import_refusal};
@@ -12,7 +14,7 @@ ghost use Rattle.club_requests.specs.Limits.{most_members, most_events, most_gam
 ghost use Rattle.club_core.specs.Members.{find_id};
 ghost use Rattle.club_requests.specs.Outcome.{by_officer, game_seated};
 ghost use Rattle.club_core.specs.Seats.{has_member_name};
-ghost use Rattle.club_imports.specs.Importing.{ShowsPlayed, IsByRules, importing_of, AddsByRules};
+ghost use Rattle.club_imports.specs.internal.Importing.{ShowsPlayed, IsByRules, importing_of, AddsByRules};
 
 use crate::played::{ComparedGames, reads_record_of};
 use club_core::seats::{are_distinct, find_event, find_member, repeated_seat};

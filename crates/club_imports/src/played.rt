@@ -1,10 +1,10 @@
 //! Comparison of a stored game with a record.
 
 ghost use Rattle.std.specs.Prelude.{◌≡◌, Option};
-ghost use Rattle.club_rules.specs.Records.{recorded_of, reading_of};
+ghost use Rattle.club_rules.specs.internal.Records.{recorded_of, reading_of};
 ghost use Rattle.club_core.specs.Game.{Game};
 ghost use Rattle.club_core.specs.Imports.{has_score, same_moves, is_record_of, reads_record_of};
-ghost use Rattle.club_imports.specs.Importing.{IsPlayedOf, ShowsPlayed};
+ghost use Rattle.club_imports.specs.internal.Importing.{IsPlayedOf, ShowsPlayed};
 
 use club_core::StoredGames;
 use club_rules::{RecordReading, RecordedGame, Rules};

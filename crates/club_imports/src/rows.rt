@@ -3,12 +3,13 @@
 ghost use Rattle.std.specs.Prelude.{◌≡◌, ◌≤◌, ◌<◌, ◌+◌, ◌^◌, ℕ, Bool, length, Some, IfOk, IsTrue};
 ghost use Rattle.squares.specs.declared.sides.Side.TheVariants.{First};
 ghost use Rattle.club_rules.specs.Line.{IsPlayedLine, position_after, line_track};
-ghost use Rattle.club_rules.specs.Records.{recorded_of, IsGameByRules};
+ghost use Rattle.club_rules.specs.Records.{IsGameByRules};
+ghost use Rattle.club_rules.specs.internal.Records.{recorded_of};
 ghost use Rattle.club_core.specs.Game.{end_with, left_of, spend, spend_all};
 ghost use Rattle.club_core.specs.Imports.{recorded_end, imported};
 ghost use Rattle.club_requests.specs.Limits.{most_plies, is_budget, is_increment};
 ghost use Rattle.club_core.specs.View.{IsRowOf};
-ghost use Rattle.club_imports.specs.OneMoment.{at_moment, clocks_with};
+ghost use Rattle.club_imports.specs.internal.OneMoment.{at_moment, clocks_with};
 
 use crate::imports::NewGame;
 use clocks::Moment;

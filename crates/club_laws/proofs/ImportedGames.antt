@@ -6,7 +6,8 @@ use Rattle.std.proofs.lemmas.List.{length-map, length-take-le}
 use Rattle.squares.specs.declared.sides.Side.{Side}
 use Rattle.squares.specs.declared.sides.Side.TheVariants.{First, Second}
 use Rattle.squares.specs.declared.sides.Score.{Score}
-use Rattle.squares.specs.Sides.{other, same_score-itself}
+use Rattle.squares.specs.Sides.{other}
+use Rattle.squares.specs.internal.Sides.{same_score-itself}
 use Rattle.club_rules.specs.declared.record_refusals.RecordRefusal.TheVariants.{ResultDiffers}
 use Rattle.club_rules.specs.declared.records.RecordFormat.{RecordFormat}
 use Rattle.club_rules.specs.GameRules.{GameRules, ply_limit}

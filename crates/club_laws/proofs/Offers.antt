@@ -4,7 +4,7 @@ use Rattle.std.proofs.Common.{sym}
 use Rattle.std.proofs.Common.{◌∙◌, IfSome}
 use Rattle.std.specs.Prelude.{max, if◌then◌else◌}
 use Rattle.std.proofs.Math.Bool.{and-false}
-use Rattle.squares.specs.DraughtsMarks.{nat_eq_other}
+use Rattle.squares.specs.internal.DraughtsMarks.{nat_eq_other}
 use Rattle.squares.specs.declared.sides.Side.{Side}
 use Rattle.squares.specs.Sides.{same_side}
 use Rattle.club_rules.specs.GameRules.{GameRules}

@@ -11,7 +11,8 @@ use Rattle.std.proofs.lemmas.Bool.{eq-eqb, not-false}
 use Rattle.std.proofs.lemmas.Bool.Decides.{nat_tests}
 use Rattle.std.proofs.lemmas.List.{map-append, take-append-le}
 use Rattle.squares.specs.declared.sides.Side.{Side}
-use Rattle.squares.specs.Sides.{other, same_side, same_side-itself}
+use Rattle.squares.specs.Sides.{other, same_side}
+use Rattle.squares.specs.internal.Sides.{same_side-itself}
 use Rattle.club_rules.specs.declared.refusals.MoveRefusal.{MoveRefusal}
 use Rattle.club_rules.specs.declared.names.GameKind.{GameKind}
 use Rattle.club_rules.specs.declared.names.GameKind.TheVariants.{Draughts, Shogi}

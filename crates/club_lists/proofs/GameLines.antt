@@ -12,7 +12,7 @@ use Rattle.club_lists.specs.declared.game_entry.GameEntry.{GameEntry}
 use Rattle.club_lists.specs.Lines.{IsGameState, IsGameLine, game_line, IsPart, AreGameLines}
 use Rattle.club_lists.specs.Listing.{is_listed}
 use Rattle.club_lists.specs.GameSummary.{GameSummary}
-use Rattle.club_lists.specs.SummaryViews.{summary_of, summaries_of}
+use Rattle.club_lists.specs.internal.SummaryViews.{summary_of, summaries_of}
 
 module _ (members : List Member) (events : List Event) where
   pub line_is : {E : Type 0} (told : GameSummary) (stands : List ℕ) (made : Result (String Global) E)

@@ -3,7 +3,8 @@ use Rattle.std.proofs.Common.{◌≡◌, ◌≤◌, ◌<◌, ◌+◌, ◌-◌, �
 use Rattle.std.proofs.Common.{ap, subst, ◌∙◌, arith, codes}
 use Rattle.std.specs.Fmt.{digits}
 use Rattle.std.specs.Prelude.{decimal, if◌then◌else◌, nat_lt, ◌==◌}
-use Rattle.club_lists.specs.Rounds.{end_after, ends_in_digit, is_digit, no_end, round_at, round_by, round_key, round_of}
+use Rattle.club_lists.specs.Rounds.{end_after, is_digit, no_end, round_at, round_by, round_of}
+use Rattle.club_lists.specs.internal.Rounds.{ends_in_digit, round_key}
 use Rattle.club_lists.specs.Rounds.{with_byte, with_digit}
 use Rattle.club_lists.specs.declared.rounds.Digits.{Digits}
 use Rattle.club_lists.specs.declared.rounds.Digits.TheVariants.{Absent, Number}

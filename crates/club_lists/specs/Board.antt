@@ -1,13 +1,12 @@
 -- A game printed for a person: its players, the side to move and the clocks, the board, and the moves.
-use Rattle.std.specs.Prelude.{ℕ, suc, ◌+◌, ◌-◌, ◌/◌, ◌%◌, ◌==◌, List, [], ◌∷◌, ◌++◌, length, map}
-use Rattle.std.specs.Prelude.{Option, Some, None, codes, decimal, nat_lt, string_bytes, if◌then◌else◌}
+use Rattle.std.specs.Prelude.{ℕ, suc, ◌+◌, ◌-◌, ◌/◌, ◌%◌, ◌==◌, List, [], ◌∷◌, ◌++◌, length}
+use Rattle.std.specs.Prelude.{Option, Some, None, codes, decimal, nat_lt, if◌then◌else◌}
 use Rattle.squares.specs.declared.sides.Side.{Side}
 use Rattle.squares.specs.declared.sides.Side.TheVariants.{First, Second}
 use Rattle.club_rules.specs.declared.names.GameKind.{GameKind}
 use Rattle.club_rules.specs.declared.names.GameKind.TheVariants.{Draughts, Shogi}
 use Rattle.club_lists.specs.Clock.{left_now}
 use Rattle.club_lists.specs.GameSummary.{Over, GameSummary}
-use Rattle.club_lists.specs.declared.board.BoardView.{BoardView}
 
 -- data of a printed game: its kind, the names of the event and the players, the diagram of the last position, and the
 -- moves in notation
@@ -18,16 +17,6 @@ pub record Board : Type 0 where
   pub second : List ℕ
   pub diagram : List ℕ
   pub moves : List (List ℕ)
-
-abbrev pub board_by : BoardView → Board
-board_by view = record {
-  kind = view.kind;
-  event = string_bytes view.event;
-  first = string_bytes view.first;
-  second = string_bytes view.second;
-  diagram = string_bytes view.diagram;
-  moves = map (λ t. string_bytes t) view.moves.items;
-}
 
 -- ---- the lines before the diagram
 

@@ -13,5 +13,5 @@ pub mod Page
 pub mod Rounds
 pub mod ShownViews
 pub mod Shows
-pub mod SummaryViews
 pub mod Values
+pub mod internal

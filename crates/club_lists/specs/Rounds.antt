@@ -1,7 +1,7 @@
 -- The round of a game that a round robin seated, by its key. Board b of round r has the key PREFIXr.b; digits at the
 -- end of PREFIX are read as part of the round.
-use Rattle.std.specs.Prelude.{ℕ, ◌+◌, ◌*◌, ◌-◌, ◌==◌, ◌&&◌, Bool, false, List, [], ◌∷◌, ◌++◌, Option, Some, None}
-use Rattle.std.specs.Prelude.{codes, decimal, nat_lt, if◌then◌else◌}
+use Rattle.std.specs.Prelude.{ℕ, ◌+◌, ◌*◌, ◌-◌, ◌==◌, ◌&&◌, Bool, List, [], ◌∷◌, Option, Some, None}
+use Rattle.std.specs.Prelude.{nat_lt, if◌then◌else◌}
 use Rattle.club_lists.specs.declared.rounds.Digits.{Digits}
 use Rattle.club_lists.specs.declared.rounds.Digits.TheVariants.{Absent, Number, Wrong}
 use Rattle.club_lists.specs.declared.rounds.KeyEnd.{KeyEnd}
@@ -17,16 +17,6 @@ most_boards = 16
 -- the byte is a digit
 abbrev pub is_digit : ℕ → Bool
 is_digit byte = nat_lt 47 byte && nat_lt byte 58
-
--- the text ends in a digit
-abbrev pub ends_in_digit : List ℕ → Bool
-ends_in_digit [] = false
-ends_in_digit (byte ∷ []) = is_digit byte
-ends_in_digit (byte ∷ next ∷ bytes) = ends_in_digit (next ∷ bytes)
-
--- the key of a board of a round, after a prefix
-abbrev pub round_key : (prefix : List ℕ) → (round board : ℕ) → List ℕ
-round_key prefix round board = prefix ++ (decimal round ++ (codes "." ++ decimal board))
 
 -- digits with one more: no number after a leading zero, or above 69
 abbrev pub with_digit : Digits → ℕ → Digits

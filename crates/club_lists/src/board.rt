@@ -1,9 +1,10 @@
 //! A game printed for a person to read.
 
 ghost use Rattle.std.specs.Prelude.{◌≡◌, ◌++◌, ◌<◌, ◌^◌, IfOk, OnOk, codes, decimal, map, string_bytes};
-ghost use Rattle.club_lists.specs.Board.{board_by, board_text, filled_with, gap, heading, line_end, move_text};
+ghost use Rattle.club_lists.specs.Board.{board_text, filled_with, gap, heading, line_end, move_text};
+ghost use Rattle.club_lists.specs.internal.Board.{board_by};
 ghost use Rattle.club_lists.specs.Board.{moves_from, side_letter, standing_line, turn_line};
-ghost use Rattle.club_lists.specs.SummaryViews.{summary_of};
+ghost use Rattle.club_lists.specs.internal.SummaryViews.{summary_of};
 
 use crate::clock::{first_now, second_now};
 use crate::game_entry::GameEntry;

@@ -5,7 +5,8 @@ ghost use Rattle.serde_json.specs.Written.{compact_text};
 ghost use Rattle.squares.specs.Sides.{score_text};
 ghost use Rattle.club_lists.specs.Bodies.{game_data, moves_data};
 ghost use Rattle.club_lists.specs.GameShown.{end_name};
-ghost use Rattle.club_lists.specs.ShownViews.{game_view, texts_view};
+ghost use Rattle.club_lists.specs.ShownViews.{texts_view};
+ghost use Rattle.club_lists.specs.internal.ShownViews.{game_view};
 ghost use Rattle.club_lists.specs.Values.{number_data, seconds_pair, text_or_null};
 
 use crate::shown::{GameShown, end_name};

@@ -3,11 +3,11 @@
 ghost use Rattle.std.specs.Prelude.{◌≡◌, IfOk, string_bytes};
 ghost use Rattle.serde_json.specs.View.{view};
 ghost use Rattle.squares.specs.declared.sides.Side.TheVariants.{First, Second};
-ghost use Rattle.club_core.specs.Answer.{members_of};
+ghost use Rattle.club_core.specs.internal.Answer.{members_of};
 ghost use Rattle.club_lists.specs.Clock.{clock_data, clock_text, deadline_within, is_running_side, left_now};
 ghost use Rattle.club_lists.specs.Clock.{running_turn};
 ghost use Rattle.club_lists.specs.Clock.{while_running};
-ghost use Rattle.club_lists.specs.SummaryViews.{summary_of};
+ghost use Rattle.club_lists.specs.internal.SummaryViews.{summary_of};
 ghost use Rattle.club_lists.specs.Values.{number_or_null, text_or_null};
 
 use crate::game_entry::GameEntry;

@@ -2,10 +2,10 @@
 
 ghost use Rattle.std.specs.Prelude.{◌≡◌, IfOk, map, string_bytes, count_by};
 ghost use Rattle.serde_json.specs.View.{view};
-ghost use Rattle.club_core.specs.Answer.{events_of, members_of};
+ghost use Rattle.club_core.specs.internal.Answer.{events_of, members_of};
 ghost use Rattle.club_lists.specs.Ended.{end_moment, ended_data, ended_games_data, ended_games_json};
 ghost use Rattle.club_lists.specs.Ended.{is_own_ended, newest_ended};
-ghost use Rattle.club_lists.specs.SummaryViews.{summaries_of, summary_of};
+ghost use Rattle.club_lists.specs.internal.SummaryViews.{summaries_of, summary_of};
 ghost use Rattle.club_lists.specs.Values.{number_or_null};
 
 use crate::game_entry::GameEntry;

@@ -1,10 +1,10 @@
 //! The games of an event whose records are exported.
 
 ghost use Rattle.std.specs.Prelude.{◌≡◌, IfOk};
-ghost use Rattle.club_core.specs.Answer.{events_of};
+ghost use Rattle.club_core.specs.internal.Answer.{events_of};
 ghost use Rattle.club_core.specs.Events.{event_kind};
 ghost use Rattle.club_lists.specs.EventRecords.{event_game_ids};
-ghost use Rattle.club_lists.specs.SummaryViews.{summaries_of};
+ghost use Rattle.club_lists.specs.internal.SummaryViews.{summaries_of};
 
 use crate::game_entry::GameEntry;
 use crate::member_json::is_of_event;

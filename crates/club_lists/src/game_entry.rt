@@ -3,7 +3,7 @@
 ghost use Rattle.std.specs.Prelude.{◌≡◌, ◌≤◌, ◌↔◌, IsSome, IfSome};
 ghost use Rattle.club_requests.specs.Limits.{last_moment};
 ghost use Rattle.club_lists.specs.GameSummary.{deadline, is_late, is_over, left_in};
-ghost use Rattle.club_lists.specs.SummaryViews.{summary_of};
+ghost use Rattle.club_lists.specs.internal.SummaryViews.{summary_of};
 
 use clocks::{Clock, Moment};
 use squares::Side;

@@ -2,7 +2,7 @@
 
 ghost use Rattle.std.specs.Prelude.{◌≡◌, ◌==◌, IfOk, not, ◌&&◌, string_bytes};
 ghost use Rattle.std.specs.Option.{option_map};
-ghost use Rattle.club_core.specs.Answer.{event_of, members_of, events_of};
+ghost use Rattle.club_core.specs.internal.Answer.{event_of, members_of, events_of};
 ghost use Rattle.club_core.specs.State.{kind_at, place};
 ghost use Rattle.club_lists.specs.Dates.{IsUntil};
 ghost use Rattle.club_lists.specs.Lines.{member_lines, game_name, games_of, running_of, event_tail, event_text};
@@ -13,7 +13,7 @@ ghost use Rattle.club_lists.specs.Lines.{IsPart};
 ghost use Rattle.club_lists.specs.Lines.{AreGameLines};
 ghost use Rattle.club_lists.specs.Listing.{is_listed};
 ghost use Rattle.club_lists.specs.GameSummary.{deadline, is_over};
-ghost use Rattle.club_lists.specs.SummaryViews.{summary_of, summaries_of};
+ghost use Rattle.club_lists.specs.internal.SummaryViews.{summary_of, summaries_of};
 
 use crate::dates::date_text;
 use crate::game_entry::GameEntry;

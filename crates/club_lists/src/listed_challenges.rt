@@ -2,7 +2,7 @@
 
 ghost use Rattle.std.specs.Prelude.{◌≡◌, IfOk, count_by};
 ghost use Rattle.serde_json.specs.View.{view};
-ghost use Rattle.club_core.specs.Answer.{members_of};
+ghost use Rattle.club_core.specs.internal.Answer.{members_of};
 ghost use Rattle.club_lists.specs.Shows.{has_room, is_accepted, is_from, is_open, is_own_challenge, is_received};
 ghost use Rattle.club_lists.specs.Shows.{more_data, own_left_out, own_listed, received_left_out, received_listed};
 

@@ -3,13 +3,13 @@
 ghost use Rattle.std.specs.Prelude.{◌≡◌, string_bytes};
 ghost use Rattle.std.specs.List.{list_any};
 ghost use Rattle.std.specs.Option.{option_map};
-ghost use Rattle.club_core.specs.Answer.{members_of, events_of};
+ghost use Rattle.club_core.specs.internal.Answer.{members_of, events_of};
 ghost use Rattle.club_core.specs.Events.{has_event_name};
 ghost use Rattle.club_core.specs.Seats.{has_member_name};
 ghost use Rattle.club_core.specs.State.{place};
 ghost use Rattle.club_lists.specs.Listing.{member_name, event_name, is_asked, has_asked, is_which, is_listed};
 ghost use Rattle.club_lists.specs.Listing.{listing_refusal};
-ghost use Rattle.club_lists.specs.SummaryViews.{summary_of};
+ghost use Rattle.club_lists.specs.internal.SummaryViews.{summary_of};
 
 use crate::game_entry::GameEntry;
 use clocks::Moment;

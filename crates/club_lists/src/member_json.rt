@@ -3,14 +3,14 @@
 ghost use Rattle.std.specs.Prelude.{◌≡◌, None, Some, IfOk, IfSome, map, string_bytes};
 ghost use Rattle.std.specs.Option.{option_map};
 ghost use Rattle.serde_json.specs.View.{view};
-ghost use Rattle.club_core.specs.Answer.{event_of, events_of, member_of, members_of};
+ghost use Rattle.club_core.specs.internal.Answer.{event_of, events_of, member_of, members_of};
 ghost use Rattle.club_lists.specs.GameSummary.{end_of, result_of};
 ghost use Rattle.club_lists.specs.Listing.{has_asked};
 ghost use Rattle.club_lists.specs.Shows.{event_data, event_game_data, event_games_data, event_games_text};
 ghost use Rattle.club_lists.specs.Shows.{games_of_event};
 ghost use Rattle.club_lists.specs.Shows.{challenge_choices, challenge_choices_json, is_other, other_names};
 ghost use Rattle.club_lists.specs.Shows.{is_of_event, is_own, member_name_by_key, offerer, own_game_data, own_game_ids};
-ghost use Rattle.club_lists.specs.SummaryViews.{running_view, running_views, summaries_of, summary_of};
+ghost use Rattle.club_lists.specs.internal.SummaryViews.{running_view, running_views, summaries_of, summary_of};
 ghost use Rattle.club_lists.specs.Rounds.{round_in};
 ghost use Rattle.club_lists.specs.Values.{number_or_null, text_or_null};
 

@@ -2,10 +2,10 @@
 
 ghost use Rattle.std.specs.Prelude.{◌≡◌, IfOk, count_by, map, string_bytes};
 ghost use Rattle.serde_json.specs.View.{view};
-ghost use Rattle.club_core.specs.Answer.{events_of, members_of};
+ghost use Rattle.club_core.specs.internal.Answer.{events_of, members_of};
 ghost use Rattle.club_lists.specs.Shows.{challenge_data, first_of, is_own_refused, is_refused, listed_challenges};
 ghost use Rattle.club_lists.specs.Shows.{my_games_data, my_games_json, newest_refused, second_of, started, state_text};
-ghost use Rattle.club_lists.specs.SummaryViews.{running_views};
+ghost use Rattle.club_lists.specs.internal.SummaryViews.{running_views};
 ghost use Rattle.club_lists.specs.Values.{number_or_null};
 
 use crate::game_entry::RunningGame;

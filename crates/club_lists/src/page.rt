@@ -3,13 +3,14 @@
 ghost use Rattle.std.specs.Prelude.{◌≡◌, IfOk, string_bytes};
 ghost use Rattle.serde_json.specs.View.{view};
 ghost use Rattle.serde_json.specs.Written.{compact_text};
-ghost use Rattle.club_core.specs.Answer.{members_of};
+ghost use Rattle.club_core.specs.internal.Answer.{members_of};
 ghost use Rattle.club_lists.specs.Bodies.{game_data};
 ghost use Rattle.club_lists.specs.Clock.{clock_data};
 ghost use Rattle.club_lists.specs.Lines.{game_name};
 ghost use Rattle.club_lists.specs.Page.{page_data};
-ghost use Rattle.club_lists.specs.ShownViews.{game_view, texts_view};
-ghost use Rattle.club_lists.specs.SummaryViews.{summary_of};
+ghost use Rattle.club_lists.specs.ShownViews.{texts_view};
+ghost use Rattle.club_lists.specs.internal.ShownViews.{game_view};
+ghost use Rattle.club_lists.specs.internal.SummaryViews.{summary_of};
 
 use crate::bodies::game_value;
 use crate::clock::clock_value;

@@ -3,7 +3,8 @@
 ghost use Rattle.std.specs.Prelude.{◌≡◌, ◌≤◌, ℕ, List, Some, false, string_bytes};
 ghost use Rattle.std.specs.Option.{option_map};
 ghost use Rattle.club_lists.specs.Rounds.{end_after, is_digit, no_end, round_at, round_by, round_in, round_of};
-ghost use Rattle.club_lists.specs.Rounds.{ends_in_digit, round_key, with_byte, with_digit};
+ghost use Rattle.club_lists.specs.Rounds.{with_byte, with_digit};
+ghost use Rattle.club_lists.specs.internal.Rounds.{ends_in_digit, round_key};
 
 // The most rounds of a round robin, twice round with 32 members.
 const MOST_ROUNDS: u32 = 62;

@@ -4,7 +4,8 @@ use Rattle.std.proofs.KnownBytes.{Appends-trans}
 use Rattle.std.specs.Io.KnownBytes.{Appends}
 use Rattle.cli.specs.declared.words.Task.{Task}
 use Rattle.club_orders.specs.declared.report.Report.{Report}
-use Rattle.club_orders.specs.Report.{report_text, IsFaultTold}
+use Rattle.club_orders.specs.Report.{report_text}
+use Rattle.club_orders.specs.internal.Report.{IsFaultTold}
 use Rattle.club_orders.specs.Explained.{explained_at, second_line, IsFaultExplained, IsRefusalExplained}
 
 -- a beginning of the second line is written behind what stands there

@@ -8,7 +8,8 @@ use Rattle.club_rows.specs.Club.{ClubState}
 use Rattle.store.specs.declared.fault.AskFault.{AskFault}
 use Rattle.store.specs.declared.fault.AskFault.TheVariants as ask_fault
 use Rattle.store.specs.declared.fault.StoreFault.TheVariants as store_fault
-use Rattle.club_orders.specs.Report.{Shows, ask_report}
+use Rattle.club_orders.specs.Report.{Shows}
+use Rattle.club_orders.specs.internal.Report.{ask_report}
 
 -- a club that was open tells no fault of an earlier call
 not_reopen : (ask_fault.Club store_fault.Reopen ≡ ask_fault.Output)

@@ -16,7 +16,8 @@ use Rattle.club_orders.specs.declared.report.Report.TheVariants.{Ready, Sound, A
 use Rattle.club_orders.specs.declared.report.Report.TheVariants.{Unopened, StoreFailed, InUse, NotOpened, NoClock, InputFailed}
 use Rattle.club_orders.specs.declared.report.Report.TheVariants.{Listening, PortUnavailable, NoMemory, Upgraded}
 use Rattle.club_orders.specs.declared.report.Report.TheVariants.{AlreadyUpgraded, Batched, Copied, BackupFailed}
-use Rattle.club_orders.specs.Report.{IfUnopened, IfUpgradeOf, schemas_after_upgrade, upgrade_of, upgrade_report}
+use Rattle.club_orders.specs.Report.{IfUnopened, IfUpgradeOf, schemas_after_upgrade, upgrade_of}
+use Rattle.club_orders.specs.internal.Report.{upgrade_report}
 use Rattle.store.specs.Histories.{HistoryStep, IsReachable, IsReachableIn, upgraded}
 use Rattle.store.specs.Upgrades.{version_found}
 use Rattle.store.specs.declared.upgrade_result.Upgrade.{Upgrade}

@@ -15,7 +15,7 @@ use Rattle.sqlite.specs.Schema.{Schema}
 use Rattle.schema_match.specs.Shapes.{is_of_club}
 use Rattle.club_rows.specs.Club.{ClubState, tables}
 use Rattle.club_rows.specs.FirstSchema.{first_tables}
-use Rattle.club_check.specs.Refused.{IsKept}
+use Rattle.club_check.specs.internal.Refused.{IsKept}
 use Rattle.club_check.specs.Versions.{HoldsRows}
 use Rattle.club_orders.specs.declared.report.Report.{Report}
 use Rattle.club_orders.specs.declared.report.Report.TheVariants.{Unopened}

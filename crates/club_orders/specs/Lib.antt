@@ -5,3 +5,4 @@ pub mod Lines
 pub mod NextStates
 pub mod Refused
 pub mod Report
+pub mod internal

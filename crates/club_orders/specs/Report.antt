@@ -1,9 +1,7 @@
 -- The result of an order: its output, the exit status, and the steps that it adds to the club's history.
-use Rattle.std.specs.Prelude.{◌≡◌, ◌≢◌, ◌⊎◌, ℕ, List, [], ◌∷◌, ◌++◌, take, Option, Some, None, Result, Ok, Err}
+use Rattle.std.specs.Prelude.{◌≡◌, ◌≢◌, ◌⊎◌, ℕ, List, [], ◌∷◌, ◌++◌, Option, Some, None, Result, Ok, Err}
 use Rattle.std.specs.Prelude.{Bool, true, false, codes, decimal, ⊤}
-use Rattle.std.specs.Io.KnownBytes.{Appends}
 use Rattle.sqlite.specs.Tree.{Trees}
-use Rattle.sqlite.specs.State.{State}
 use Rattle.store_tables.specs.Contents.{IsEmpty}
 use Rattle.store_tables.specs.Over.{LeavesBeside, LeavesFirst, Neighbours, alone}
 use Rattle.store_tables.specs.Room.{LeavesNoClub}
@@ -13,13 +11,10 @@ use Rattle.club_requests.specs.declared.requests.Who.TheVariants.{Officer}
 use Rattle.club_requests.specs.declared.requests.Command.{Command}
 use Rattle.club_requests.specs.declared.answers.Outcome.{Outcome}
 use Rattle.club_requests.specs.declared.answers.Outcome.TheVariants as outcome
-use Rattle.club_requests.specs.declared.refusals.Refusal.{Refusal}
 use Rattle.club_requests.specs.AnswerText.{outcome_text}
 use Rattle.club_core.specs.State.{Request}
 use Rattle.club_rows.specs.Club.{ClubState, tables}
 use Rattle.club_rows.specs.FirstSchema.{first_tables}
-use Rattle.store.specs.declared.fault.AskFault.{AskFault}
-use Rattle.store.specs.declared.fault.AskFault.TheVariants as ask_fault
 use Rattle.club_check.specs.declared.fault.OpenFault.{OpenFault}
 use Rattle.club_check.specs.declared.fault.OpenFault.TheVariants as open_fault
 use Rattle.store.specs.declared.fault.StoreFault.TheVariants as store_fault
@@ -27,7 +22,6 @@ use Rattle.club_check.specs.FaultText.{open_fault_text}
 use Rattle.store.specs.FaultText.{store_fault_text}
 use Rattle.store.specs.Histories.{HistoryStep, IsReachable, answered_session, cut_session, upgraded}
 use Rattle.store.specs.declared.upgrade_result.Upgrade.{Upgrade}
-use Rattle.store.specs.declared.upgrade_result.Upgrade.TheVariants.{Done, Already}
 use Rattle.club_changes.specs.Steps.{request}
 use Rattle.club_requests.specs.declared.questions.Question.{Question}
 use Rattle.club_answers.specs.AnswerTexts.{HasWrittenAnswer, HasShownSome}
@@ -96,13 +90,6 @@ abbrev pub IsFaultText : Report → List ℕ → Type 0
 IsFaultText report text =
     ((report_status report ≢ 0) × (text ≡ report_text report))
     ⊎ ((text ≡ codes "store 75 Memory\n") ⊎ ((report_status report ≡ 0) × (text ≡ codes "store 77 Output\n")))
-
--- that line, or a prefix of it if the writer failed, was written
-pub record IsFaultTold (report : Report) (before now : Option (List ℕ)) : Type 0 where
-  pub text : List ℕ
-  pub is_text : IsFaultText report text
-  pub count : ℕ
-  pub written : Appends before now (take count text)
 
 -- the report on a file that was not opened: another program uses it, or it cannot be opened
 abbrev pub IsNotOpened : Report → Type 0
@@ -186,15 +173,6 @@ abbrev pub writes : Task → Bool
 writes (task.Ask question) = true
 writes _ = false
 
--- ---- queries
-
--- the report of a query
-abbrev pub ask_report : Result (Option Refusal) AskFault → Report
-ask_report (Ok None) = Shown
-ask_report (Ok (Some refusal)) = Answered (outcome.Refused refusal)
-ask_report (Err ask_fault.Output) = OutputFailed
-ask_report (Err (ask_fault.Club fault)) = StoreFailed fault
-
 -- The answer to the query was written; or it is refused and nothing was; or the writer or a call failed, or memory ran
 -- out, and a prefix of the answer was written.
 abbrev pub Shows : ClubState → (moment : ℕ) → Question → Option (List ℕ) → Option (List ℕ) → Report → Type 0
@@ -243,12 +221,6 @@ IsOfCopy BackupFailed = ⊤
 IsOfCopy (StoreFailed fault) = (fault ≡ store_fault.Store) ⊎ (fault ≡ store_fault.Memory)
 IsOfCopy _ = ⊥
 
--- ---- upgrade
-
-abbrev pub upgrade_report : Upgrade → Report
-upgrade_report Done = Upgraded
-upgrade_report Already = AlreadyUpgraded
-
 -- if an upgrade accepted the file, this holds for the schema version that it found
 abbrev pub IfUpgradeOf : Report → (Version → Type 0) → Type 0
 IfUpgradeOf Upgraded Holds = Holds First
@@ -266,11 +238,6 @@ IsUpgraded _ = ⊥
 abbrev pub AreCarried : Neighbours → ClubState → Report → Trees → Type 0
 AreCarried them s Upgraded trees = LeavesBeside them (tables s) trees
 AreCarried them s _ trees = LeavesFirst them (first_tables s) trees ⊎ LeavesBeside them (tables s) trees
-
--- the result of the upgrade of a club of schema 1, beside the same foreign tables
-pub record IsUpgradeResult (them : Neighbours) (s : ClubState) (report : Report) (new : State) : Type 0 where
-  pub answer : IsUpgraded report
-  pub leaves : (db : Trees) → new.may_leave db → AreCarried them s report db
 
 -- the file was of schema 2; or a call of the database failed, or memory ran out
 abbrev pub IsRepeated : Report → Type 0

@@ -11,9 +11,10 @@ ghost use Rattle.store_tables.specs.Reading.{OnlyReads, Reads};
 ghost use Rattle.store_tables.specs.declared.names.Version.TheVariants.{Current};
 ghost use Rattle.schema_match.specs.Shapes.{is_of_club};
 ghost use Rattle.club_rows.specs.Club.{ClubState, IsClub, tables};
-ghost use Rattle.club_check.specs.Refused.{IsRefusal};
+ghost use Rattle.club_check.specs.internal.Refused.{IsRefusal};
 ghost use Rattle.store.specs.Histories.{HistoryStep, HasState, IsHistory, IsReachable, IsReachableIn};
-ghost use Rattle.club_orders.specs.Refused.{HasFirst, IsOlder, IsTakenOver};
+ghost use Rattle.club_orders.specs.Refused.{HasFirst, IsOlder};
+ghost use Rattle.club_orders.specs.internal.Refused.{IsTakenOver};
 ghost use Rattle.club_orders.specs.Report.{IfTaken, IfUnopened, OnlyUnopened};
 
 use crate::report::Report;

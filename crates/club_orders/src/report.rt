@@ -2,7 +2,8 @@
 
 ghost use Rattle.std.specs.Prelude.{◌≡◌, ◌≢◌, ◌⊎◌, ◌++◌, ℕ, [], OnOk, take, string_bytes};
 ghost use Rattle.std.specs.Io.KnownBytes.{Appends};
-ghost use Rattle.club_orders.specs.Report.{report_status, report_text, IsFaultTold};
+ghost use Rattle.club_orders.specs.Report.{report_status, report_text};
+ghost use Rattle.club_orders.specs.internal.Report.{IsFaultTold};
 
 use crate::batched::{BatchResults, write_fault};
 use crate::causes::FileFault;

@@ -1,7 +1,7 @@
 -- The words to parse, put together.
 use Rattle.std.proofs.Common.{◌≡◌, ◌∙◌, ℕ, List, Option, ap, sym, map, min, take, drop, length, option_map, subst, refl}
 use Rattle.std.proofs.lemmas.List.{take-map, drop-map, take_min, drop_min}
-use Rattle.club_program.specs.CommandLine.{file_at, file_behind, plain_path, plain_words, with_file}
+use Rattle.club_program.specs.internal.CommandLine.{file_at, file_behind, plain_path, plain_words, with_file}
 
 put_together : (words taken options rest : List (List ℕ)) (path : Option (List ℕ))
     → options ≡ take (file_at words) words → rest ≡ drop (file_at words) words

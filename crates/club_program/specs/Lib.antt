@@ -1,3 +1,2 @@
 pub mod Alike
-pub mod ByteOrderMark
-pub mod CommandLine
+pub mod internal

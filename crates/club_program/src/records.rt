@@ -1,7 +1,7 @@
 //! Input files: the record of a game, and the lines of a batch.
 
 ghost use Rattle.std.specs.Prelude.{◌≡◌, IfOk, IfSome, take};
-ghost use Rattle.club_program.specs.ByteOrderMark.{without_mark};
+ghost use Rattle.club_program.specs.internal.ByteOrderMark.{without_mark};
 
 use cli::Order;
 use club_batches::BATCH_BYTES;

@@ -2,8 +2,8 @@
 
 ghost use Rattle.std.specs.Prelude.{◌≡◌, ◌++◌, ◌∷◌, IfOk, IfErr, drop, map, option_map, string_bytes};
 ghost use Rattle.cli.specs.Said.{AreRefused, StatesInvocation};
-ghost use Rattle.club_program.specs.CommandLine.{file_at, file_behind, is_option, option_words, plain_path};
-ghost use Rattle.club_program.specs.CommandLine.{plain_words, with_file};
+ghost use Rattle.club_program.specs.internal.CommandLine.{file_at, file_behind, is_option, option_words, plain_path};
+ghost use Rattle.club_program.specs.internal.CommandLine.{plain_words, with_file};
 
 use cli::{BadWords, Invocation, read_words};
 use std::alloc::AllocError;

@@ -5,9 +5,9 @@ use Rattle.sqlite.specs.Order.{Row, column}
 use Rattle.club_core.specs.Members.{Member}
 use Rattle.club_core.specs.Events.{Event}
 use Rattle.club_rows.specs.Tables.{number, numbered_from, member_row, event_row, rule_row}
-use Rattle.store_sql.specs.Read.{BeginWithPlaces}
+use Rattle.store_sql.specs.internal.Read.{BeginWithPlaces}
 use Rattle.club_rows.specs.Club.{both_games, ClubState, tables}
-use Rattle.club_changes.specs.Steps.{game_in}
+use Rattle.club_changes.specs.internal.Steps.{game_in}
 use Rattle.club_changes.proofs.Proved.{numbered_places, first_of_game}
 
 pub begins : {A : Type 0} (row : ℕ → A → Row) (first : (id : ℕ) (x : A) → column (row id x) 0 ≡ number id) (xs : List A)

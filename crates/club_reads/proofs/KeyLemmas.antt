@@ -5,7 +5,7 @@ use Rattle.std.specs.Prelude.{is_some, option_map}
 use Rattle.sqlite.specs.Order.{Row}
 use Rattle.sqlite.specs.declared.types.Value.TheVariants.{Null, Text}
 use Rattle.sqlite_rules.specs.Lists.{Has}
-use Rattle.store_tables.specs.Contents.{AreThose}
+use Rattle.store_tables.specs.internal.Contents.{AreThose}
 use Rattle.club_requests.specs.declared.requests.Caller.TheVariants as caller
 use Rattle.club_core.specs.Members.{Member, find_id}
 use Rattle.club_core.specs.State.{place, caller_found, has_member_key}

@@ -4,12 +4,13 @@ ghost use Rattle.std.specs.Prelude.{◌≡◌, ◌≤◌, ◌<◌, ℕ, List, ma
 ghost use Rattle.std.specs.Prelude.{length};
 ghost use Rattle.sqlite.specs.State.{HasCleanDisk};
 ghost use Rattle.sqlite.specs.Held.{state};
-ghost use Rattle.club_core.specs.Answer.{event_of, events_of};
+ghost use Rattle.club_core.specs.internal.Answer.{event_of, events_of};
 ghost use Rattle.club_core.specs.Events as core;
 ghost use Rattle.club_core.specs.State as club;
 ghost use Rattle.club_core.specs.State.{place};
 ghost use Rattle.club_rows.specs.Tables.{number, numbered_from, event_row, rule_row};
-ghost use Rattle.store_tables.specs.Cells.{event_cells, event_rule_cells};
+ghost use Rattle.store_tables.specs.Cells.{event_cells};
+ghost use Rattle.store_tables.specs.internal.Cells.{event_rule_cells};
 ghost use Rattle.store_tables.specs.Over.{HasRows};
 ghost use Rattle.store_tables.specs.Reading.{Reads};
 ghost use Rattle.club_rows.specs.Club.{ClubState, IsClub, tables};

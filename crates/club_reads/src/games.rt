@@ -10,8 +10,8 @@ ghost use Rattle.store_tables.specs.Cells.{game_cells};
 ghost use Rattle.store_tables.specs.Over.{HasRows};
 ghost use Rattle.store_tables.specs.Reading.{Reads};
 ghost use Rattle.club_rows.specs.Club.{ClubGame, ClubState, IsClub, tables};
-ghost use Rattle.club_changes.specs.Steps.{game_in};
-ghost use Rattle.club_changes.specs.Stored.{IsStoredGame, IsFoundGame};
+ghost use Rattle.club_changes.specs.internal.Steps.{game_in};
+ghost use Rattle.club_changes.specs.internal.Stored.{IsStoredGame, IsFoundGame};
 ghost use Rattle.std.specs.Prelude.{Option};
 
 use crate::events::event_with;

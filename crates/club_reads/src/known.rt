@@ -7,7 +7,7 @@ ghost use Rattle.club_core.specs.State.{game_under};
 ghost use Rattle.club_rows.specs.Club.{ClubState, IsClub, tables};
 ghost use Rattle.store_tables.specs.Over.{HasRows};
 ghost use Rattle.store_tables.specs.Reading.{Reads};
-ghost use Rattle.club_changes.specs.Importing.{IsUnder, IsKnown};
+ghost use Rattle.club_changes.specs.internal.Importing.{IsUnder, IsKnown};
 
 use crate::events::all_events;
 use crate::fault::LookupFault;

@@ -4,12 +4,12 @@ ghost use Rattle.std.specs.Prelude.{◌≡◌, ◌≤◌, ◌<◌, ℕ, List, ma
 ghost use Rattle.std.specs.Prelude.{length, string_bytes};
 ghost use Rattle.sqlite.specs.State.{HasCleanDisk};
 ghost use Rattle.sqlite.specs.Held.{state};
-ghost use Rattle.club_core.specs.Answer.{members_of};
+ghost use Rattle.club_core.specs.internal.Answer.{members_of};
 ghost use Rattle.club_core.specs.Members as core_members;
 ghost use Rattle.club_core.specs.State as club;
 ghost use Rattle.club_core.specs.State.{place};
 ghost use Rattle.club_rows.specs.Tables.{number, numbered_from, member_row};
-ghost use Rattle.store_tables.specs.Cells.{member_cells};
+ghost use Rattle.store_tables.specs.internal.Cells.{member_cells};
 ghost use Rattle.store_tables.specs.Over.{HasRows};
 ghost use Rattle.store_tables.specs.Reading.{Reads};
 ghost use Rattle.club_rows.specs.Club.{ClubState, IsClub, tables};

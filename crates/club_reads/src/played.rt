@@ -4,12 +4,12 @@ ghost use Rattle.std.specs.Prelude.{Option, Some, IfOk, is_ok};
 ghost use Rattle.sqlite.specs.State.{HasCleanDisk};
 ghost use Rattle.sqlite.specs.Held.{state};
 ghost use Rattle.club_core.specs.Game.{Game};
-ghost use Rattle.club_imports.specs.Importing.{IsPlayedOf, ShowsPlayed};
-ghost use Rattle.club_rows.specs.Replay.{terms_given};
+ghost use Rattle.club_imports.specs.internal.Importing.{IsPlayedOf, ShowsPlayed};
+ghost use Rattle.club_rows.specs.internal.Replay.{terms_given};
 ghost use Rattle.store_tables.specs.Over.{HasRows};
 ghost use Rattle.store_tables.specs.Contents.{Content};
 ghost use Rattle.store_tables.specs.Reading.{Reads};
-ghost use Rattle.club_changes.specs.Importing.{IsOfKind, TellsLine};
+ghost use Rattle.club_changes.specs.internal.Importing.{IsOfKind, TellsLine};
 ghost use Rattle.club_changes.specs.Steps.{IsRecordOf};
 
 use crate::fault::LookupFault;

@@ -3,3 +3,4 @@ pub mod Limits
 pub mod Outcome
 pub mod OutsideEnd
 pub mod Refusal
+pub mod internal

@@ -1,5 +1,5 @@
 -- The ends outside the rules: their names as they are printed and stored, and their scores.
-use Rattle.std.specs.Prelude.{List, [], ◌∷◌, ℕ, Bool, true, codes}
+use Rattle.std.specs.Prelude.{List, [], ◌∷◌, ℕ, Bool, codes}
 use Rattle.std.specs.List.{list_any}
 use Rattle.std.specs.Str.{bytes_eq}
 use Rattle.squares.specs.declared.sides.Side.{Side}
@@ -24,14 +24,6 @@ outside_score Time turn = loses turn
 outside_score Agreed turn = Draw
 outside_score Declared turn = loses (other turn)
 outside_score (Recorded score) turn = score
-
--- whether a game can end this way, given whether there is a draw offer, the right to declare, and an imported game
-abbrev pub outside_allowed : Bool → Bool → Bool → OutsideEnd → Bool
-outside_allowed offered declarable imported Resigned = true
-outside_allowed offered declarable imported Time = true
-outside_allowed offered declarable imported Agreed = offered
-outside_allowed offered declarable imported Declared = declarable
-outside_allowed offered declarable imported (Recorded score) = imported
 
 -- the ends outside the rules; their names do not depend on the score
 abbrev pub outside_ends : List OutsideEnd

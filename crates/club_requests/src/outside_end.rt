@@ -4,7 +4,8 @@ ghost use Rattle.std.specs.Prelude.{◌≡◌, Some, IfSome};
 ghost use Rattle.squares.specs.declared.sides.Score.{Score};
 ghost use Rattle.club_requests.specs.declared.outside_end.OutsideEnd.{OutsideEnd};
 ghost use Rattle.club_requests.specs.declared.outside_end.OutsideEnd.TheVariants.{Recorded};
-ghost use Rattle.club_requests.specs.OutsideEnd.{outside_text, outside_score, outside_allowed};
+ghost use Rattle.club_requests.specs.OutsideEnd.{outside_text, outside_score};
+ghost use Rattle.club_requests.specs.internal.OutsideEnd.{outside_allowed};
 ghost use Rattle.club_requests.specs.OutsideEnd.{is_outside};
 
 use squares::{Score, Side};

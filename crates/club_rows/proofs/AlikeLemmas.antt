@@ -12,7 +12,7 @@ use Rattle.club_core.specs.Game.{Entry, Game, end_with, score_with, rule_end, tu
 use Rattle.club_core.specs.Legal.{IsLegalGame}
 use Rattle.club_core.proofs.Proved.{last-played}
 use Rattle.club_rows.specs.Tables.{game_row, move_rows, entry_rows, with_entry, at_start, end_name_text}
-use Rattle.club_rows.specs.Columns.{columns_of}
+use Rattle.club_rows.specs.internal.Columns.{columns_of}
 use Rattle.club_rows.proofs.ColumnLemmas.{columns-alike, row-columns}
 use Rattle.club_rows.proofs.LineLemmas.{one-text}
 use Rattle.club_rows.proofs.WholeLemmas.{rows-alike}

@@ -11,13 +11,15 @@ use Rattle.club_core.specs.Challenges.{key_of_challenge, is_under, challenge_und
 use Rattle.club_core.specs.LegalState.{HaveUniqueKeys}
 use Rattle.club_laws.proofs.Proved.{under-key, key-under, under-at, under-found, under-each, under-put, got-put}
 use Rattle.club_laws.proofs.Proved.{apart-put}
-use Rattle.store_tables.specs.Cells.{challenge_cells}
-use Rattle.store_tables.specs.Changes.{Alters, HaveSame}
-use Rattle.store_tables.specs.Content.{same_key, put}
-use Rattle.store_tables.specs.Contents.{AreThose}
+use Rattle.store_tables.specs.internal.Cells.{challenge_cells}
+use Rattle.store_tables.specs.Changes.{HaveSame}
+use Rattle.store_tables.specs.internal.Changes.{Alters}
+use Rattle.store_tables.specs.Content.{same_key}
+use Rattle.store_tables.specs.internal.Content.{put}
+use Rattle.store_tables.specs.internal.Contents.{AreThose}
 use Rattle.store_tables.specs.declared.rows.ChallengeRow.{ChallengeRow}
 use Rattle.store_tables.proofs.Proved.{altered, unaltered, has_map}
-use Rattle.club_rows.specs.ChallengeRows.{IsChallengeFound, challenge_key}
+use Rattle.club_rows.specs.internal.ChallengeRows.{IsChallengeFound, challenge_key}
 use Rattle.club_rows.specs.Tables.{number, challenge_row}
 use Rattle.club_rows.proofs.KeyPairs.{same-numbers, same-seconds, keys-agree}
 pub use Rattle.club_rows.proofs.SeenClub.{seated-added}

@@ -26,9 +26,10 @@ use Rattle.club_laws.proofs.Proved.{room-for}
 use Rattle.store_tables.specs.Cells.{game_cells}
 use Rattle.store_tables.specs.declared.rows.GameTableRow.{GameTableRow}
 use Rattle.club_rows.specs.Tables.{game_row}
-use Rattle.club_rows.specs.Columns.{Columns, AreColumns, HasOffer, IsEndIn, IsOutsideIn, IsReadAs, columns_for}
-use Rattle.club_rows.specs.Columns.{columns_of, stored_cells}
-use Rattle.club_rows.specs.LegalRows.{IsRecordOf}
+use Rattle.club_rows.specs.internal.Columns.{Columns, AreColumns, HasOffer, IsEndIn, IsOutsideIn, IsReadAs}
+use Rattle.club_rows.specs.internal.Columns.{columns_for}
+use Rattle.club_rows.specs.internal.Columns.{columns_of, stored_cells}
+use Rattle.club_rows.specs.internal.LegalRows.{IsRecordOf}
 
 -- ---- rows with the same values, column by column
 

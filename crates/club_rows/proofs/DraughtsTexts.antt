@@ -13,12 +13,13 @@ use Rattle.squares.specs.Sides.{same_side}
 use Rattle.squares.specs.DraughtsBoard.{Board, Position}
 use Rattle.pdn.specs.FenText.{side_letter, piece_text, piece_of, pieces_on, all_squares, fen_text}
 use Rattle.pdn.specs.Forms.{Form, FormReading, quiet, capture, read_form}
-use Rattle.pdn.specs.Grammar.{IsSquareText, AreLandings, HasForm}
-use Rattle.pdn.specs.MoveValue.{move_reading, move_text, with_form}
+use Rattle.pdn.specs.internal.Grammar.{IsSquareText, AreLandings, HasForm}
+use Rattle.pdn.specs.MoveValue.{move_text}
+use Rattle.pdn.specs.internal.MoveValue.{move_reading, with_form}
 use Rattle.pdn.specs.SquareText.{square_text}
 use Rattle.pdn.proofs.Proved.{read_form-text}
 use Rattle.club_games.specs.Draughts.{draughts, move_read}
-use Rattle.club_games.specs.DraughtsLaws.{draughts-reads_back}
+use Rattle.club_games.specs.internal.DraughtsLaws.{draughts-reads_back}
 use Rattle.club_rows.proofs.PlainTexts.{Plain, plain-append, ArePlain}
 
 square-plain : (n : ℕ) → n ≤ 50 → Plain (square_text n)

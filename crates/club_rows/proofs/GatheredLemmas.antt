@@ -5,7 +5,7 @@ use Rattle.std.specs.Prelude.{slice_get, slice_set}
 use Rattle.sqlite.specs.Order.{Row, column}
 use Rattle.sqlite_rules.specs.Lists.{Has}
 use Rattle.sqlite_rules.proofs.ListLemmas.{has_either, has_left, has_right}
-use Rattle.store_tables.specs.Changes.{Alters}
+use Rattle.store_tables.specs.internal.Changes.{Alters}
 use Rattle.store_tables.specs.Content.{same_key}
 use Rattle.club_laws.proofs.Proved.{got-append, got-set, set-got, get-append, at-last, put-at}
 use Rattle.club_rows.specs.Tables.{number, gathered_from}

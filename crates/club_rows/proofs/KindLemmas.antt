@@ -6,9 +6,10 @@ use Rattle.squares.specs.declared.shogi.moves.SMove.{SMove}
 use Rattle.club_rules.specs.declared.names.GameKind.{GameKind}
 use Rattle.club_rules.specs.declared.names.GameKind.TheVariants.{Draughts, Shogi}
 use Rattle.club_rules.specs.GameRules.{GameRules}
-use Rattle.club_games.specs.DraughtsLaws.{draughts-first_starts, draughts-turn_passes, draughts-same_is}
-use Rattle.club_games.specs.DraughtsLaws.{draughts-ends_at_limit}
-use Rattle.club_games.specs.ShogiLaws.{shogi-first_starts, shogi-turn_passes, shogi-same_is, shogi-ends_at_limit}
+use Rattle.club_games.specs.internal.DraughtsLaws.{draughts-first_starts, draughts-turn_passes, draughts-same_is}
+use Rattle.club_games.specs.internal.DraughtsLaws.{draughts-ends_at_limit}
+use Rattle.club_games.specs.internal.ShogiLaws.{shogi-first_starts, shogi-turn_passes, shogi-same_is}
+use Rattle.club_games.specs.internal.ShogiLaws.{shogi-ends_at_limit}
 use Rattle.club_requests.specs.declared.requests.Caller.{Caller}
 use Rattle.club_core.specs.Events.{Event}
 use Rattle.club_core.specs.Game.{Game}

@@ -14,13 +14,16 @@ use Rattle.club_core.specs.View.{IsRowOf, Shows, IsSound, terms_of}
 use Rattle.store_tables.specs.Cells.{game_cells, move_cells}
 use Rattle.store_tables.specs.declared.rows.GameTableRow.{GameTableRow}
 use Rattle.store_tables.specs.declared.rows.MoveRow.{MoveRow}
-use Rattle.club_rows.specs.Replay.{WasReplayed, IsPlayedAs, Replays, game_from}
-use Rattle.club_rows.specs.Tally.{IsTallyOf}
-use Rattle.club_rows.specs.LegalRows.{AreMovesOf, IsHistoryOf, AreRowsOf, IsWrongAsTold, ShowsGame, IsSoundIfShown}
-use Rattle.club_rows.specs.LegalRows.{AreMovesTold, StandsAs}
-use Rattle.club_rows.specs.Columns.{Columns, AreColumns, HasReplayed, IsOutsideIn, columns_of, game_in, IsReadAs}
-use Rattle.club_rows.specs.Columns.{stored_cells}
-use Rattle.club_rows.specs.MayStand.{may_declare}
+use Rattle.club_rows.specs.Replay.{IsPlayedAs}
+use Rattle.club_rows.specs.internal.Replay.{WasReplayed, Replays, game_from}
+use Rattle.club_rows.specs.internal.Tally.{IsTallyOf}
+use Rattle.club_rows.specs.LegalRows.{AreMovesOf, AreRowsOf}
+use Rattle.club_rows.specs.internal.LegalRows.{IsHistoryOf, IsWrongAsTold, ShowsGame, IsSoundIfShown}
+use Rattle.club_rows.specs.internal.LegalRows.{AreMovesTold, StandsAs}
+use Rattle.club_rows.specs.internal.Columns.{Columns, AreColumns, HasReplayed, IsOutsideIn, columns_of, game_in}
+use Rattle.club_rows.specs.internal.Columns.{IsReadAs}
+use Rattle.club_rows.specs.internal.Columns.{stored_cells}
+use Rattle.club_rows.specs.internal.MayStand.{may_declare}
 use Rattle.club_rows.specs.declared.replay.Replayed.{Replayed}
 use Rattle.club_rows.specs.declared.view.CheckedGame.{CheckedGame}
 use Rattle.club_rows.specs.declared.view.CheckedRows.{CheckedRows}

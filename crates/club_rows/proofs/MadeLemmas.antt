@@ -3,7 +3,7 @@ use Rattle.std.proofs.Common.{◌≡◌, [], ◌∷◌, ◌++◌, None, refl, ap
 use Rattle.club_rules.specs.GameRules.{GameRules}
 use Rattle.club_core.proofs.Proved.{AreRules, reply-played}
 use Rattle.club_rows.specs.Tables.{entry_row, move_rows}
-use Rattle.club_rows.specs.Made.{made_row, MadeRowIsLast}
+use Rattle.club_rows.specs.internal.Made.{made_row, MadeRowIsLast}
 use Rattle.club_rows.proofs.WholeLemmas.{rows-append, rows-alike}
 
 pub made-last : {P M E T : Type 0} (rules : GameRules P M E T) → AreRules rules → MadeRowIsLast rules

@@ -14,7 +14,7 @@ use Rattle.club_core.specs.Game.{Entry, Game, spend, clocks_of, moves_of, left_o
 use Rattle.club_core.proofs.Proved.{AreRules, clocks-played, last-played}
 use Rattle.store_tables.specs.declared.rows.MoveRow.{MoveRow}
 use Rattle.club_rows.specs.Tables.{with_entry}
-use Rattle.club_rows.specs.Replay.{IsNext, Follows, Replays, left_in}
+use Rattle.club_rows.specs.internal.Replay.{IsNext, Follows, Replays, left_in}
 use Rattle.club_rows.specs.declared.replay.Replayed.{Replayed}
 
 -- a row of six columns, by its columns

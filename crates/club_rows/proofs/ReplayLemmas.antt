@@ -10,8 +10,9 @@ use Rattle.club_rules.specs.Line.{position_after}
 use Rattle.club_rules.proofs.Proved.{position_after-append, IsLegalLine-append}
 use Rattle.club_core.proofs.Proved.{line_track-append, IsPlayedLine-append, IsPlayedLine-none}
 use Rattle.club_rows.specs.declared.replay.Replayed.{Replayed}
-use Rattle.club_rows.specs.Tally.{IsTallyOf, HasStood, PositionText, same_text, seen_at, stood_then, stood_seldom}
-use Rattle.club_rows.specs.Replay.{IsReplayed, left_in}
+use Rattle.club_rows.specs.internal.Tally.{IsTallyOf, HasStood, PositionText, same_text, seen_at, stood_then}
+use Rattle.club_rows.specs.internal.Tally.{stood_seldom}
+use Rattle.club_rows.specs.internal.Replay.{IsReplayed, left_in}
 use Rattle.club_rows.proofs.TallyLemmas.{few-seldom, stood-then, tally-more}
 
 module _ {R P M E T : Type 0} (rules : GameRules P M E T) where

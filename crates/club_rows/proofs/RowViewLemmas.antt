@@ -8,7 +8,8 @@ use Rattle.std.proofs.lemmas.List.{length-map}
 use Rattle.std.proofs.lemmas.Option.{slice_get-get_or, slice_get_past}
 use Rattle.club_rules.specs.GameRules.{GameRules}
 use Rattle.club_rules.specs.Line.{position_after, IsLegalLine}
-use Rattle.club_rules.specs.Laws.{TracksTellEnds, NumbersGiveTracks, WritesPositions, StandsForOne, IsPositionRead}
+use Rattle.club_rules.specs.Laws.{TracksTellEnds, NumbersGiveTracks, WritesPositions, StandsForOne}
+use Rattle.club_rules.specs.internal.Laws.{IsPositionRead}
 use Rattle.club_core.specs.declared.rows.Asked.{Asked}
 use Rattle.club_core.specs.Events.{Terms}
 use Rattle.club_core.specs.Game.{Entry, Game, clocks_of, moves_of, left_of, side_after, game_at, last_position}
@@ -22,9 +23,9 @@ use Rattle.store_tables.specs.Cells.{move_cells}
 use Rattle.store_tables.specs.declared.rows.GameTableRow.{GameTableRow}
 use Rattle.store_tables.specs.declared.rows.MoveRow.{MoveRow}
 use Rattle.club_rows.specs.Tables.{at_start, move_rows}
-use Rattle.club_rows.specs.Columns.{Columns, columns_of}
-use Rattle.club_rows.specs.RowView.{HasLastStood, IsPlayed, row_at}
-use Rattle.club_rows.specs.LegalRows.{IsRecordOf}
+use Rattle.club_rows.specs.internal.Columns.{Columns, columns_of}
+use Rattle.club_rows.specs.internal.RowView.{HasLastStood, IsPlayed, row_at}
+use Rattle.club_rows.specs.internal.LegalRows.{IsRecordOf}
 use Rattle.club_rows.specs.declared.tally.Occurrences.{Occurrences}
 use Rattle.club_rows.proofs.NextLemmas.{six-parts}
 use Rattle.club_rows.proofs.ColumnLemmas.{cells-told, row-columns}

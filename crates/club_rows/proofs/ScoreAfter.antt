@@ -5,11 +5,12 @@ use Rattle.std.specs.Prelude.{count_by}
 use Rattle.std.proofs.lemmas.Bool.{cases_Bool, cases_lt}
 use Rattle.std.proofs.lemmas.List.Sums.{sum_by-append, sum_by-cons, count_by-le-length}
 use Rattle.squares.specs.declared.sides.Score.{Score}
-use Rattle.store_tables.specs.Cells.{score_cells}
+use Rattle.store_tables.specs.internal.Cells.{score_cells}
 use Rattle.store_tables.specs.declared.rows.ScoreRow.{ScoreRow}
 use Rattle.store_tables.specs.Content.{same_key}
-use Rattle.club_rows.specs.NextScores.{IsFound, AreNext, Fit, pair_of, pair_cells, gains_of, plus_sums, sums_found}
-use Rattle.club_rows.specs.NextScores.{sums_over, row_with}
+use Rattle.club_rows.specs.internal.NextScores.{IsFound, AreNext, Fit, pair_of, pair_cells, gains_of, plus_sums}
+use Rattle.club_rows.specs.internal.NextScores.{sums_found}
+use Rattle.club_rows.specs.internal.NextScores.{sums_over, row_with}
 use Rattle.club_rows.specs.Scores.{Meeting, same_pair, scores_of, score_row, score_rows, is_win, is_draw, is_loss}
 use Rattle.club_rows.specs.Scores.{meetings, own_first, own_second}
 use Rattle.club_rows.specs.declared.scores.Pair.{Pair}

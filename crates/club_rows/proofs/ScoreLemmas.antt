@@ -7,15 +7,16 @@ use Rattle.sqlite.specs.Order.{Row}
 use Rattle.sqlite_rules.specs.Lists.{Has}
 use Rattle.sqlite_rules.proofs.ListLemmas.{all_from}
 use Rattle.squares.specs.declared.sides.Score.{Score}
-use Rattle.store_tables.specs.Cells.{score_cells, IsScore}
-use Rattle.store_tables.specs.Changes.{Alters}
-use Rattle.store_tables.specs.Contents.{AreThose}
+use Rattle.store_tables.specs.Cells.{IsScore}
+use Rattle.store_tables.specs.internal.Cells.{score_cells}
+use Rattle.store_tables.specs.internal.Changes.{Alters}
+use Rattle.store_tables.specs.internal.Contents.{AreThose}
 use Rattle.store_tables.specs.declared.rows.ScoreRow.{ScoreRow}
 use Rattle.club_rules.specs.GameRules.{GameRules}
 use Rattle.club_core.specs.ClubRules.{ClubRules}
 use Rattle.club_core.specs.Game.{Game, result_of}
 use Rattle.club_core.specs.State.{AnyGame}
-use Rattle.club_rows.specs.NextScores.{AreNext, IsFound, pair_cells, pair_of}
+use Rattle.club_rows.specs.internal.NextScores.{AreNext, IsFound, pair_cells, pair_of}
 use Rattle.club_rows.specs.Scores.{Meeting, meetings, meetings_if, meetings_of, meetings_in, score_rows, scores_in}
 use Rattle.club_rows.specs.declared.scores.Pair.{Pair}
 use Rattle.club_rows.specs.declared.scores.ScoreRows.{ScoreRows}

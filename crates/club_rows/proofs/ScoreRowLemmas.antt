@@ -14,7 +14,7 @@ use Rattle.sqlite_value.specs.Keys.{first_key}
 use Rattle.sqlite_rules.specs.Lists.{Has}
 use Rattle.sqlite_rules.proofs.ListLemmas.{has_filtered, has_kept, has_either, has_left, has_right, some_has, some_from}
 use Rattle.store_tables.specs.Content.{same_key}
-use Rattle.store_tables.specs.Changes.{Alters}
+use Rattle.store_tables.specs.internal.Changes.{Alters}
 use Rattle.store_tables.proofs.Proved.{equal_ints, has_map, has_mapped}
 use Rattle.club_rows.specs.Scores.{Meeting, same_pair, scores_of, once_each, score_row, score_rows, wins, draws, losses}
 use Rattle.club_rows.specs.Scores.{points}

@@ -13,7 +13,8 @@ use Rattle.club_core.specs.Game.{Entry, Game, last_position}
 use Rattle.club_laws.proofs.Proved.{same-bytes_eq}
 use Rattle.store_tables.specs.Cells.{seen_cells}
 use Rattle.store_tables.specs.declared.rows.SeenRow.{SeenRow}
-use Rattle.club_rows.specs.Seen.{times_in, stood_before, seen_row, rows_of_texts, texts_of, IsSeenRow, IsFound}
+use Rattle.club_rows.specs.Seen.{times_in, stood_before, seen_row, rows_of_texts, texts_of}
+use Rattle.club_rows.specs.internal.Seen.{IsSeenRow, IsFound}
 use Rattle.club_rows.specs.Tables.{with_entry}
 use Rattle.club_rows.proofs.SeenGame.{texts-more, texts-count}
 use Rattle.club_rows.proofs.SeenTexts.{Texts, FirstAt, stood-at, at-stood, row-had, row-has, first-more, first-new}

@@ -5,10 +5,10 @@ use Rattle.std.specs.Prelude.{slice_get, slice_set, string_bytes}
 use Rattle.sqlite_value.specs.declared.value.Value.TheVariants.{Text}
 use Rattle.sqlite.specs.Order.{Row, column}
 use Rattle.sqlite_rules.specs.Lists.{Has}
-use Rattle.store_tables.specs.Changes.{Alters}
+use Rattle.store_tables.specs.internal.Changes.{Alters}
 use Rattle.store_tables.specs.Cells.{seen_cells}
 use Rattle.store_tables.specs.Content.{same_key}
-use Rattle.store_tables.specs.Contents.{AreThose}
+use Rattle.store_tables.specs.internal.Contents.{AreThose}
 use Rattle.store_tables.specs.declared.rows.SeenRow.{SeenRow}
 use Rattle.club_rules.specs.GameRules.{GameRules}
 use Rattle.club_core.specs.ClubRules.{ClubRules}
@@ -17,7 +17,8 @@ use Rattle.club_core.specs.declared.seats.Pairing.{Pairing}
 use Rattle.club_core.specs.State.{AnyGame, draughts, shogi, State, place, kind_at, seated_as, with_imported}
 use Rattle.club_core.specs.State.{with_new_game}
 use Rattle.club_rows.specs.Tables.{number, gathered_from, rows_of_seen, tables_of}
-use Rattle.club_rows.specs.Seen.{texts_of, seen_rows, IsFound}
+use Rattle.club_rows.specs.Seen.{texts_of, seen_rows}
+use Rattle.club_rows.specs.internal.Seen.{IsFound}
 use Rattle.club_rows.proofs.GatheredLemmas.{gathered-had, gathered-has, gathered-set, gathered-added}
 use Rattle.club_rows.proofs.KeyPairs.{same-numbers, same-texts, keys-agree}
 use Rattle.club_rows.proofs.SeenGame.{seen-id, texts-apart}

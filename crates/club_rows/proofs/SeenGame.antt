@@ -7,14 +7,15 @@ use Rattle.std.proofs.lemmas.List.{length-map, map-append}
 use Rattle.sqlite_value.specs.declared.value.Value.TheVariants.{Text}
 use Rattle.sqlite.specs.Order.{Row, column}
 use Rattle.sqlite_rules.specs.Lists.{Has}
-use Rattle.store_tables.specs.Changes.{Alters}
+use Rattle.store_tables.specs.internal.Changes.{Alters}
 use Rattle.store_tables.specs.Content.{same_key}
 use Rattle.club_rules.specs.GameRules.{GameRules}
 use Rattle.club_rules.specs.Line.{positions}
 use Rattle.club_core.specs.Game.{Entry, Game, moves_of, last_position}
 use Rattle.club_laws.proofs.Proved.{same-bytes_eq, bytes_eq-same}
 use Rattle.club_rows.specs.Tables.{number}
-use Rattle.club_rows.specs.Seen.{times_in, seen_row, rows_of_texts, texts_of, seen_rows, IsSeenRow}
+use Rattle.club_rows.specs.Seen.{times_in, seen_row, rows_of_texts, texts_of, seen_rows}
+use Rattle.club_rows.specs.internal.Seen.{IsSeenRow}
 use Rattle.club_rows.proofs.KeyPairs.{same-texts, keys-agree}
 use Rattle.club_rows.proofs.TallyLemmas.{positions-append}
 use Rattle.club_rows.proofs.SeenTexts.{row-had, row-has, one-row, times-other, first-more, first-old}

@@ -15,7 +15,8 @@ use Rattle.club_core.specs.Game.{Game, moves_of, last_position}
 use Rattle.club_laws.proofs.Proved.{same-bytes_eq, bytes_eq-same}
 use Rattle.store_tables.specs.Cells.{seen_cells}
 use Rattle.store_tables.specs.declared.rows.SeenRow.{SeenRow}
-use Rattle.club_rows.specs.Seen.{times_in, texts_of, IsSeenRow}
+use Rattle.club_rows.specs.Seen.{times_in, texts_of}
+use Rattle.club_rows.specs.internal.Seen.{IsSeenRow}
 use Rattle.club_rows.proofs.LineLemmas.{IsLegalLine-take}
 use Rattle.club_rows.proofs.SeenGame.{positions-count}
 use Rattle.club_rows.proofs.SeenTexts.{FirstAt, row-had}

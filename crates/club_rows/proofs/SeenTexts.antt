@@ -12,7 +12,7 @@ use Rattle.sqlite.specs.Order.{Row, column}
 use Rattle.sqlite_rules.specs.Lists.{Has}
 use Rattle.sqlite_rules.proofs.ListLemmas.{some_from, some_has}
 use Rattle.club_laws.proofs.Proved.{bytes_eq-same, same-bytes_eq, got-append, get-append, at-last}
-pub use Rattle.club_rows.specs.Seen.{FirstAt}
+pub use Rattle.club_rows.specs.internal.Seen.{FirstAt}
 use Rattle.club_rows.specs.Seen.{times_in, stood_before, seen_row, rows_from, rows_of_texts}
 
 abbrev pub Texts : Type 0

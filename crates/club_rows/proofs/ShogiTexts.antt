@@ -20,10 +20,11 @@ use Rattle.sfen.specs.SfenGrammar.{cells_from}
 use Rattle.sfen.specs.SfenText.{gap_text, cells_text, rank_text, more_ranks, board_text, held_text, kinds_text}
 use Rattle.sfen.specs.SfenText.{hand_kinds, or_hyphen, hands_text, position_text}
 use Rattle.sfen.specs.UsiReading.{usi_reach, usi_reading}
-use Rattle.sfen.specs.UsiText.{square_text, promotion_text, usi_text, IsOnBoard}
+use Rattle.sfen.specs.UsiText.{square_text, promotion_text, usi_text}
+use Rattle.sfen.specs.internal.UsiText.{IsOnBoard}
 use Rattle.sfen.proofs.Proved.{usi_reading-sound}
 use Rattle.club_games.specs.Shogi.{shogi, move_read}
-use Rattle.club_games.specs.ShogiLaws.{shogi-reads_back}
+use Rattle.club_games.specs.internal.ShogiLaws.{shogi-reads_back}
 use Rattle.club_rows.proofs.PlainTexts.{Plain, plain-append, decimal-plain, ArePlain}
 
 -- ---- positions

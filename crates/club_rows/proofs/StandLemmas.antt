@@ -20,9 +20,9 @@ use Rattle.club_core.specs.Game.{Entry, Game, Clocks, spend, spend_all, clocks_o
 use Rattle.club_core.specs.Game.{last_position, end_with, moments_of}
 use Rattle.club_core.specs.Legal.{IsTimely, IsOffer, IsLegalGame, MayEndBy}
 use Rattle.club_core.specs.View.{IsRowOf}
-use Rattle.club_rows.specs.Replay.{game_from}
+use Rattle.club_rows.specs.internal.Replay.{game_from}
 use Rattle.club_rows.proofs.ColumnLemmas.{spend-since}
-use Rattle.club_rows.specs.MayStand.{may_have_key, may_have_offer, may_have_end, may_stand}
+use Rattle.club_rows.specs.internal.MayStand.{may_have_key, may_have_offer, may_have_end, may_stand}
 
 pub is_some-none : {A : Type 0} (o : Option A) → is_some o ≡ false → o ≡ None
 is_some-none o is = grind arith

@@ -10,8 +10,8 @@ use Rattle.club_rules.specs.GameRules.{GameRules}
 use Rattle.club_rules.specs.Laws.{SamePositionIs, TextsTellPositions}
 use Rattle.club_rules.specs.Line.{position_after, positions, IsLegalLine, times_stood, FirstStands}
 use Rattle.club_laws.proofs.Proved.{bytes_eq-same, same-bytes_eq}
-use Rattle.club_rows.specs.Tally.{IsTallyOf, PositionText, IsStood, HasStood, HasNotStood, same_text, seen_at}
-use Rattle.club_rows.specs.Tally.{stood_then, stood_seldom}
+use Rattle.club_rows.specs.internal.Tally.{IsTallyOf, PositionText, IsStood, HasStood, HasNotStood, same_text, seen_at}
+use Rattle.club_rows.specs.internal.Tally.{stood_then, stood_seldom}
 use Rattle.club_rows.specs.declared.tally.Occurrences.{Occurrences}
 use Rattle.club_rows.specs.declared.tally.PositionCounts.{PositionCounts}
 

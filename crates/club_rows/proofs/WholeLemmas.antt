@@ -22,7 +22,8 @@ use Rattle.club_laws.proofs.Proved.{each-append, map-at}
 use Rattle.store_tables.specs.Cells.{move_cells}
 use Rattle.store_tables.specs.declared.rows.MoveRow.{MoveRow}
 use Rattle.club_rows.specs.Tables.{at_start, entry_row, entry_rows, with_entry}
-use Rattle.club_rows.specs.Replay.{Follows, Replays, IsPlayedAs, WasReplayed, game_from}
+use Rattle.club_rows.specs.Replay.{IsPlayedAs}
+use Rattle.club_rows.specs.internal.Replay.{Follows, Replays, WasReplayed, game_from}
 use Rattle.club_rows.specs.declared.replay.Replayed.{Replayed}
 use Rattle.club_rows.proofs.LineLemmas.{IsLegalLine-take, one-text}
 

@@ -1,16 +1,13 @@
 -- The distinct positions of a game with repetition count and first ply.
-use Rattle.std.specs.Prelude.{◌≡◌, ◌<◌, ℕ, suc, pos, Bool, List, [], ◌∷◌, map, take, count_by, Option, Some, None}
-use Rattle.std.specs.Prelude.{slice_get, if◌then◌else◌}
+use Rattle.std.specs.Prelude.{ℕ, suc, pos, Bool, List, [], ◌∷◌, map, take, count_by}
+use Rattle.std.specs.Prelude.{if◌then◌else◌}
 use Rattle.std.specs.List.{list_any}
 use Rattle.std.specs.Str.{bytes_eq}
 use Rattle.sqlite_value.specs.declared.value.Value.TheVariants.{Int, Text}
-use Rattle.sqlite.specs.Order.{Row, column}
-use Rattle.sqlite_rules.specs.Lists.{Has}
+use Rattle.sqlite.specs.Order.{Row}
 use Rattle.club_rules.specs.GameRules.{GameRules}
 use Rattle.club_rules.specs.Line.{positions}
 use Rattle.club_core.specs.Game.{Game, moves_of}
-use Rattle.store_tables.specs.Cells.{seen_cells}
-use Rattle.store_tables.specs.declared.rows.SeenRow.{SeenRow}
 
 -- ---- occurrences in a line
 
@@ -21,11 +18,6 @@ times_in texts text = count_by (bytes_eq text) texts
 -- whether the text occurs among the first n
 abbrev pub stood_before : List (List ℕ) → ℕ → List ℕ → Bool
 stood_before texts ply text = list_any (bytes_eq text) (take ply texts)
-
--- the text first occurs after that ply
-pub record FirstAt (texts : List (List ℕ)) (ply : ℕ) (text : List ℕ) : Type 0 where
-  pub at : slice_get texts ply ≡ Some text
-  pub earliest : (k : ℕ) → k < ply → slice_get texts k ≡ Some text → ⊥
 
 -- ---- rows
 
@@ -52,13 +44,3 @@ module _ {P M E T : Type 0} (rules : GameRules P M E T) where
   -- one row for each distinct position, in the order of first occurrence
   abbrev pub seen_rows : ℕ → Game M → List Row
   seen_rows id game = rows_of_texts id (texts_of game)
-
-  -- the game's row of the position with this notation
-  pub record IsSeenRow (id : ℕ) (game : Game M) (text : List ℕ) (row : Row) : Type 0 where
-    pub there : Has (seen_rows id game) row
-    pub text_is : column row 1 ≡ Text text
-
-  -- the result of a lookup: the position's row, or None if the game has no such position
-  abbrev pub IsFound : ℕ → Game M → List ℕ → Option SeenRow → Type 0
-  IsFound id game text None = (row : Row) → ¬ IsSeenRow id game text row
-  IsFound id game text (Some found) = IsSeenRow id game text (seen_cells found)

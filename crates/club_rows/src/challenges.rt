@@ -4,8 +4,8 @@ ghost use Rattle.std.specs.Prelude.{◌≡◌, ◌≢◌, Bool, pos, None, Some,
 ghost use Rattle.std.specs.Option.{option_map};
 ghost use Rattle.club_core.specs.declared.challenges.Challenge as core;
 ghost use Rattle.club_core.specs.declared.challenges.ChallengeState as stands;
-ghost use Rattle.store_tables.specs.Cells.{challenge_cells};
-ghost use Rattle.club_rows.specs.ChallengeRows.{HasShortGame, HasShortNumbers, StandsAs};
+ghost use Rattle.store_tables.specs.internal.Cells.{challenge_cells};
+ghost use Rattle.club_rows.specs.internal.ChallengeRows.{HasShortGame, HasShortNumbers, StandsAs};
 ghost use Rattle.club_rows.specs.Tables.{challenge_row, first_number, game_started, standing_number};
 
 use crate::numbers::id;

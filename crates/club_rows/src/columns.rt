@@ -6,7 +6,7 @@ ghost use Rattle.squares.specs.declared.sides.Score.{Score};
 ghost use Rattle.squares.specs.Sides.{score_text};
 ghost use Rattle.club_core.specs.declared.rows.Offer.{Offer};
 ghost use Rattle.store_tables.specs.Cells.{game_cells};
-ghost use Rattle.club_rows.specs.Columns.{HasOffer, IsReadAs};
+ghost use Rattle.club_rows.specs.internal.Columns.{HasOffer, IsReadAs};
 
 use crate::ends::{score_of, side_of};
 use crate::numbers;

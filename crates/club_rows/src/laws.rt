@@ -4,7 +4,7 @@ ghost use Rattle.std.specs.Prelude.{◌≡◌, ℕ};
 ghost use Rattle.club_core.specs.ClubRules.{both};
 ghost use Rattle.club_core.specs.LegalState.{IsLegalState};
 ghost use Rattle.club_core.specs.State.{State};
-ghost use Rattle.club_rows.specs.Made.{MadeRowIsLast};
+ghost use Rattle.club_rows.specs.internal.Made.{MadeRowIsLast};
 ghost use Rattle.club_rows.specs.Tables.{tables_of};
 
 use club_rules::{Records, Rules};

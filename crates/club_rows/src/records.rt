@@ -8,7 +8,7 @@ ghost use Rattle.club_core.specs.Game.{Game};
 ghost use Rattle.club_core.specs.View.{IsRowOf};
 ghost use Rattle.store_tables.specs.Cells.{game_cells, move_cells};
 ghost use Rattle.club_core.specs.Answer.{move_reply_of};
-ghost use Rattle.club_rows.specs.Made.{made_row};
+ghost use Rattle.club_rows.specs.internal.Made.{made_row};
 ghost use Rattle.club_rows.specs.Tables.{number, side_number, game_row, end_name_text};
 
 use crate::ends::{end_name, side_number};

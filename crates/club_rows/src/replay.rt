@@ -8,9 +8,11 @@ ghost use Rattle.club_rules.specs.Line.{IsPlayedLine, line_track, position_after
 ghost use Rattle.club_requests.specs.Limits.{is_budget, is_increment};
 ghost use Rattle.club_core.specs.Game.{Game, Entry};
 ghost use Rattle.club_rows.specs.Tables.{with_entry};
-ghost use Rattle.club_rows.specs.Tally.{PositionText, same_text, seen_at, stood_then, stood_seldom};
-ghost use Rattle.club_rows.specs.Replay.{IsCounted, IsReplayed, TakesTime, IsNext, Replays, Follows, WasReplayed};
-ghost use Rattle.club_rows.specs.Replay.{IsPlayedAs, left_in, clocks_replayed, terms_with, terms_given};
+ghost use Rattle.club_rows.specs.internal.Tally.{PositionText, same_text, seen_at, stood_then, stood_seldom};
+ghost use Rattle.club_rows.specs.internal.Replay.{IsCounted, IsReplayed, TakesTime, IsNext, Replays, Follows};
+ghost use Rattle.club_rows.specs.internal.Replay.{WasReplayed};
+ghost use Rattle.club_rows.specs.Replay.{IsPlayedAs};
+ghost use Rattle.club_rows.specs.internal.Replay.{left_in, clocks_replayed, terms_with, terms_given};
 
 use crate::numbers::{to_i64, to_moment};
 use crate::tally::{Occurrences, PositionCounts};

@@ -8,10 +8,10 @@ ghost use Rattle.club_core.specs.Game.{Game, game_at, last_position};
 ghost use Rattle.club_core.specs.Legal.{IsLegalGame};
 ghost use Rattle.club_core.specs.Step.{move_at};
 ghost use Rattle.club_core.specs.View.{IsAsked, IsRowOf, IsSound, Shows, ShowsPly, terms_of};
-ghost use Rattle.club_rows.specs.Replay.{terms_given};
-ghost use Rattle.club_rows.specs.Columns.{columns_in, columns_of};
-ghost use Rattle.club_rows.specs.RowView.{HasLastStood, AreRowsAt, IsPlayed};
-ghost use Rattle.club_rows.specs.LegalRows.{IsRecordOf};
+ghost use Rattle.club_rows.specs.internal.Replay.{terms_given};
+ghost use Rattle.club_rows.specs.internal.Columns.{columns_in, columns_of};
+ghost use Rattle.club_rows.specs.internal.RowView.{HasLastStood, AreRowsAt, IsPlayed};
+ghost use Rattle.club_rows.specs.internal.LegalRows.{IsRecordOf};
 
 use crate::columns::{GameColumns, stored_game};
 use crate::numbers::to_u64;

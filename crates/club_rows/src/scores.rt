@@ -2,9 +2,9 @@
 
 ghost use Rattle.std.specs.Prelude.{◌≡◌, ◌≢◌, ◌≤◌, ◌^◌, List, None, length, IfSome};
 ghost use Rattle.std.specs.Option.{option_map};
-ghost use Rattle.club_rows.specs.NextScores.{AreFound, AreNext, Fit};
-ghost use Rattle.club_rows.specs.NextScores.{gains_of, pair_of, plus_sums, sums_found, row_with};
-ghost use Rattle.club_rows.specs.Pairs.{firsts_pair, pair_in, seconds_pair};
+ghost use Rattle.club_rows.specs.internal.NextScores.{AreFound, AreNext, Fit};
+ghost use Rattle.club_rows.specs.internal.NextScores.{gains_of, pair_of, plus_sums, sums_found, row_with};
+ghost use Rattle.club_rows.specs.internal.Pairs.{firsts_pair, pair_in, seconds_pair};
 ghost use Rattle.club_rows.specs.Scores.{Meeting, own_first, own_second};
 
 use club_core::Pairing;

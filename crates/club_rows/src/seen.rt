@@ -6,7 +6,8 @@ ghost use Rattle.std.specs.Option.{option_map};
 ghost use Rattle.club_rules.specs.Line.{IsLegalLine, times_stood, FirstStands};
 ghost use Rattle.club_core.specs.Game.{Entry, Game, moves_of, last_position};
 ghost use Rattle.store_tables.specs.Cells.{seen_cells};
-ghost use Rattle.club_rows.specs.Seen.{seen_row, seen_rows, IsSeenRow, IsFound};
+ghost use Rattle.club_rows.specs.Seen.{seen_row, seen_rows};
+ghost use Rattle.club_rows.specs.internal.Seen.{IsSeenRow, IsFound};
 ghost use Rattle.club_rows.specs.Tables.{with_entry};
 
 use crate::tally::Occurrences;

@@ -3,7 +3,8 @@
 ghost use Rattle.std.specs.Prelude.{◌≡◌, ◌≤◌, ◌<◌, ◌+◌, ◌++◌, ◌∷◌, [], List, Some, None, IfOk, cond, length};
 ghost use Rattle.std.specs.Prelude.{string_bytes};
 ghost use Rattle.club_rules.specs.Line.{position_after, times_stood, FirstStands, IsLegalLine};
-ghost use Rattle.club_rows.specs.Tally.{IsTallyOf, PositionText, same_text, seen_at, stood_then, stood_seldom};
+ghost use Rattle.club_rows.specs.internal.Tally.{IsTallyOf, PositionText, same_text, seen_at, stood_then};
+ghost use Rattle.club_rows.specs.internal.Tally.{stood_seldom};
 
 use club_rules::{Memory, Rules};
 use std::alloc::Global;

@@ -8,13 +8,16 @@ ghost use Rattle.club_requests.specs.declared.outside_end.OutsideEnd.{OutsideEnd
 ghost use Rattle.club_requests.specs.Limits.{is_budget, is_increment};
 ghost use Rattle.club_core.specs.Events as core;
 ghost use Rattle.club_core.specs.Game.{Game, Entry, score_with};
-ghost use Rattle.club_core.specs.View.{IsRowOf, IsSound, Shows, rule_in, terms_of};
+ghost use Rattle.club_core.specs.View.{IsRowOf, IsSound, Shows, terms_of};
+ghost use Rattle.club_core.specs.internal.View.{rule_in};
 ghost use Rattle.club_rows.specs.Tables.{end_name_text};
-ghost use Rattle.club_rows.specs.Columns.{HasReplayed, IsEndIn, IsNamedIn, IsOutsideIn, columns_in, game_in};
-ghost use Rattle.club_rows.specs.Replay.{IsCounted, IsReplayed, Replays, game_from, terms_given};
-ghost use Rattle.club_rows.specs.LegalRows.{AreMovesTold, AreRowsOf, IsNoGame, IsSoundIfShown, IsUnstarted};
-ghost use Rattle.club_rows.specs.LegalRows.{IsWrongAsTold, ShowsGame, StandsAs};
-ghost use Rattle.club_rows.specs.MayStand.{may_have_key, may_have_offer, may_have_end, may_declare, may_stand};
+ghost use Rattle.club_rows.specs.internal.Columns.{HasReplayed, IsEndIn, IsNamedIn, IsOutsideIn, columns_in, game_in};
+ghost use Rattle.club_rows.specs.internal.Replay.{IsCounted, IsReplayed, Replays, game_from, terms_given};
+ghost use Rattle.club_rows.specs.LegalRows.{AreRowsOf};
+ghost use Rattle.club_rows.specs.internal.LegalRows.{AreMovesTold, IsNoGame, IsSoundIfShown, IsUnstarted};
+ghost use Rattle.club_rows.specs.internal.LegalRows.{IsWrongAsTold, ShowsGame, StandsAs};
+ghost use Rattle.club_rows.specs.internal.MayStand.{may_have_key, may_have_offer, may_have_end, may_declare};
+ghost use Rattle.club_rows.specs.internal.MayStand.{may_stand};
 
 use crate::columns::{GameColumns, stored_game};
 use crate::ends::end_name;

@@ -2,7 +2,8 @@
 use Rattle.std.proofs.Common.{◌≡◌, ℕ, List, Option, Some, None, sym, ap, subst}
 use Rattle.club_rules.specs.GameRules.{GameRules}
 use Rattle.club_rules.specs.Line.{position_after, IsLegalLine}
-use Rattle.club_rules.specs.Laws.{IsPositionRead, StandsForOne, WritesPositions, TextsTellPositions}
+use Rattle.club_rules.specs.Laws.{StandsForOne, WritesPositions, TextsTellPositions}
+use Rattle.club_rules.specs.internal.Laws.{IsPositionRead}
 
 -- a text is read as the position that it stands for
 pub position-read : {P : Type 0} (StandsFor : List ℕ → P → Type 0) → StandsForOne StandsFor

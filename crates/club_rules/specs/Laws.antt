@@ -1,5 +1,5 @@
 -- The laws that the rules of each game satisfy.
-use Rattle.std.specs.Prelude.{◌≡◌, ◌≤◌, ◌+◌, ◌↔◌, ℕ, List, [], length, Option, Some, None, IsSome, Ok, true}
+use Rattle.std.specs.Prelude.{◌≡◌, ◌≤◌, ◌+◌, ◌↔◌, ℕ, List, [], length, None, IsSome, Ok, true}
 use Rattle.squares.specs.declared.sides.Side.TheVariants.{First}
 use Rattle.squares.specs.Sides.{other}
 use Rattle.club_rules.specs.GameRules.{GameRules, ply_limit}
@@ -8,10 +8,6 @@ use Rattle.club_rules.specs.Line.{FirstStands}
 
 -- StandsFor: the text denotes the position
 module _ {P : Type 0} (StandsFor : List ℕ → P → Type 0) where
-  -- the result of reading a text as a position: the position that it denotes, or None if it denotes none
-  abbrev pub IsPositionRead : List ℕ → Option P → Type 0
-  IsPositionRead text (Some p) = StandsFor text p
-  IsPositionRead text None = (p : P) → StandsFor text p → ⊥
 
   -- a text denotes at most one position
   abbrev pub StandsForOne : Type 0

@@ -6,3 +6,4 @@ pub mod Listed
 pub mod MoveRefusal
 pub mod RecordRefusal
 pub mod Records
+pub mod internal

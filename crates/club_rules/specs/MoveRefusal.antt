@@ -55,7 +55,3 @@ move_refusal_name Ambiguous = codes "Ambiguous"
 abbrev pub move_refusal_tail : MoveRefusal → List ℕ
 move_refusal_tail (BadText game offset) = codes " " ++ decimal offset
 move_refusal_tail _ = []
-
--- the number, the name and the offset if any, separated by spaces
-abbrev pub move_refusal_text : MoveRefusal → List ℕ
-move_refusal_text r = decimal (move_refusal_number r) ++ codes " " ++ move_refusal_name r ++ move_refusal_tail r

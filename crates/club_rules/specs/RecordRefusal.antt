@@ -49,7 +49,3 @@ record_refusal_tail OtherType = []
 record_refusal_tail (OtherOpening format) = []
 record_refusal_tail (Unfinished format) = []
 record_refusal_tail (ResultDiffers format) = []
-
--- the number, the name and the parameters, separated by spaces
-abbrev pub record_refusal_text : RecordRefusal → List ℕ
-record_refusal_text r = decimal (record_refusal_number r) ++ codes " " ++ record_refusal_name r ++ record_refusal_tail r

@@ -2,9 +2,6 @@
 use Rattle.std.specs.Prelude.{◌≡◌, Bool, true, List, ℕ, Some}
 use Rattle.squares.specs.declared.sides.Score.{Score}
 use Rattle.club_rules.specs.declared.records.RecordFormat.{RecordFormat}
-use Rattle.club_rules.specs.declared.records.RecordedGame as given_game
-use Rattle.club_rules.specs.declared.records.RecordReading as given_reading
-use Rattle.club_rules.specs.declared.records.RecordReading.TheVariants as given
 use Rattle.club_rules.specs.declared.record_refusals.RecordRefusal.{RecordRefusal}
 use Rattle.club_rules.specs.GameRules.{GameRules}
 use Rattle.club_rules.specs.Line.{position_after, IsPlayedLine}
@@ -26,16 +23,6 @@ pub record GameRecords (M : Type 0) : Type 0 where
   pub format : RecordFormat
   -- reads one part of a text; parts count from 1
   pub read : List ℕ → ℕ → Reading M
-
--- the mathematical values of the program's results
-module _ {M : Type 0} where
-  abbrev pub recorded_of : given_game.RecordedGame M → Recorded M
-  recorded_of g = record { moves = g.moves.items; score = g.score; declared = g.declared }
-
-  abbrev pub reading_of : given_reading.RecordReading M → Reading M
-  reading_of (given.Game g) = game (recorded_of g)
-  reading_of given.NoPart = no_part
-  reading_of (given.Refused refusal) = refused refusal
 
 -- The moves are a line played by the rules. If the rules ended the game, the score is theirs. A declared win is one
 -- that the side to move may declare.

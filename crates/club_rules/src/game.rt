@@ -4,7 +4,8 @@ ghost use Rattle.std.specs.Prelude.{◌≡◌, ◌<◌, ℕ, List, IfOk, Ok, str
 ghost use Rattle.club_rules.specs.GameRules.{GameRules};
 ghost use Rattle.club_rules.specs.Laws.{FirstStarts, StartsRunning, TurnPasses, ReadsBack, SameIs, SamePositionIs};
 ghost use Rattle.club_rules.specs.Laws.{EndsAtLimit};
-ghost use Rattle.club_rules.specs.Laws.{IsPositionRead, WritesPositions, StandsForOne, TextsTellPositions};
+ghost use Rattle.club_rules.specs.Laws.{WritesPositions, StandsForOne, TextsTellPositions};
+ghost use Rattle.club_rules.specs.internal.Laws.{IsPositionRead};
 ghost use Rattle.club_rules.specs.Laws.{TracksTellEnds, NumbersGiveTracks, TracksGiveNumbers, NumbersAreFew};
 ghost use Rattle.club_rules.specs.Line.{IsPlayedLine};
 ghost use Rattle.club_rules.specs.Listed.{IsLegalList};

@@ -2,7 +2,7 @@
 
 ghost use Rattle.std.specs.Prelude.{◌≡◌};
 ghost use Rattle.club_rules.specs.RecordRefusal.{by_format, record_refusal_number, record_refusal_name};
-ghost use Rattle.club_rules.specs.RecordRefusal.{record_refusal_text};
+ghost use Rattle.club_rules.specs.internal.RecordRefusal.{record_refusal_text};
 
 use crate::records::RecordFormat;
 use crate::refusals::MoveRefusal;

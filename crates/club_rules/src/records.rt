@@ -1,7 +1,8 @@
 //! Game records: texts that other programs write and read.
 
 ghost use Rattle.std.specs.Prelude.{◌≡◌, IfOk};
-ghost use Rattle.club_rules.specs.Records.{GameRecords, reading_of, ReadsGames};
+ghost use Rattle.club_rules.specs.Records.{GameRecords, ReadsGames};
+ghost use Rattle.club_rules.specs.internal.Records.{reading_of};
 
 use crate::game::Rules;
 use crate::record_refusals::RecordRefusal;

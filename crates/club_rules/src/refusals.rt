@@ -2,7 +2,8 @@
 
 ghost use Rattle.std.specs.Prelude.{◌≡◌};
 ghost use Rattle.club_rules.specs.MoveRefusal.{no_such_move_number, bad_text_number, move_refusal_number};
-ghost use Rattle.club_rules.specs.MoveRefusal.{move_refusal_name, move_refusal_text};
+ghost use Rattle.club_rules.specs.MoveRefusal.{move_refusal_name};
+ghost use Rattle.club_rules.specs.internal.MoveRefusal.{move_refusal_text};
 
 use crate::names::GameKind;
 use std::fmt;

@@ -8,7 +8,7 @@ use Rattle.server.specs.Acknowledged.{LeadTo}
 use Rattle.server.specs.Visits.{IsNextServed, listed}
 use Rattle.server.specs.declared.connections.Served.{Served}
 use Rattle.server.proofs.Proved.{lead_on, some_state}
-use Rattle.club_session.specs.Acknowledged.{IsAfter}
+use Rattle.club_session.specs.internal.Acknowledged.{IsAfter}
 use Rattle.club_session.specs.Served.{DeskState, served}
 use Rattle.club_session.specs.ServedStates.{IsLeft, IsLeftBy, IsServed}
 

@@ -16,8 +16,9 @@ use Rattle.store.specs.declared.fault.StoreFault.TheVariants as club
 use Rattle.http_bodies.specs.ShownViews.{shown_view}
 use Rattle.http_desk.specs.declared.faults.ClubFault.{ClubFault}
 use Rattle.http_desk.specs.Served.{IsOfCall}
-use Rattle.club_session.specs.Faults.{fault_of_question}
-use Rattle.club_session.specs.Served.{DeskState, written}
+use Rattle.club_session.specs.internal.Faults.{fault_of_question}
+use Rattle.club_session.specs.Served.{DeskState}
+use Rattle.club_session.specs.internal.Served.{written}
 use Rattle.club_session.specs.ServedStates.{IsServed, IsLeft, served_stays}
 use Rattle.club_session.proofs.ServeLemmas.{read_left, read_stands}
 

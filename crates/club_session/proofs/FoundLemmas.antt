@@ -16,15 +16,17 @@ use Rattle.store_sql.proofs.Proved.{schema_once}
 use Rattle.schema_match.specs.Shapes.{is_of_club}
 use Rattle.club_rows.specs.Club.{ClubState}
 use Rattle.club_check.specs.ReasonIsRight.{IsRightFault}
-use Rattle.club_check.specs.Refused.{HoldClub, IsKept, IsRefusal}
+use Rattle.club_check.specs.Refused.{HoldClub}
+use Rattle.club_check.specs.internal.Refused.{IsKept, IsRefusal}
 use Rattle.club_check.specs.RightTables.{NamesFirstDamaged}
 use Rattle.club_check.specs.declared.fault.OpenFault.{OpenFault}
 use Rattle.store_files.specs.Finds.{Finds, IsFoundIn}
 use Rattle.club_orders.specs.declared.report.Report.{Report}
-use Rattle.club_orders.specs.Report.{IsUpgradeResult}
-use Rattle.club_orders.specs.Refused.{IsUpgradeRefusal}
+use Rattle.club_orders.specs.internal.Report.{IsUpgradeResult}
+use Rattle.club_orders.specs.internal.Refused.{IsUpgradeRefusal}
 use Rattle.http_desk.specs.declared.faults.ClubFault.{ClubFault}
-use Rattle.club_session.specs.ToldFault.{IfOpened, IsReportedFault}
+use Rattle.club_session.specs.ToldFault.{IfOpened}
+use Rattle.club_session.specs.internal.ToldFault.{IsReportedFault}
 use Rattle.club_session.specs.Found.{AnswerAs, AnswerAsClub, AreCarriedOver, AreKept, AreNotUpgraded}
 use Rattle.club_session.specs.Found.{AreRefused, AreSound, HaveClubTables, IsSessionFault, database_of}
 use Rattle.club_session.proofs.TaskLemmas.{if_taken, taken_under}

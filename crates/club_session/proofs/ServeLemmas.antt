@@ -15,7 +15,7 @@ use Rattle.club_changes.specs.Steps.{KeepsClub, club_next}
 use Rattle.http_desk.specs.declared.faults.ClubFault.{ClubFault}
 use Rattle.http_desk.specs.declared.faults.ClubFault.TheVariants.{Reopen}
 use Rattle.http_desk.specs.Served.{IsOfCall, Serves}
-use Rattle.club_session.specs.Faults.{fault_of_store, club_fault}
+use Rattle.club_session.specs.internal.Faults.{fault_of_store, club_fault}
 use Rattle.club_session.specs.Served.{DeskState, next_of}
 use Rattle.club_session.specs.ServedStates.{IsServed, IsLeft, MayLeave}
 

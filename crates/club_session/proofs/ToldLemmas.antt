@@ -12,7 +12,8 @@ use Rattle.club_check.specs.declared.fault.OpenFault.{OpenFault}
 use Rattle.club_check.specs.declared.fault.OpenFault.TheVariants as opening
 use Rattle.http_desk.specs.declared.faults.ClubFault.{ClubFault}
 use Rattle.club_session.specs.Faults.{fault_of_opening}
-use Rattle.club_session.specs.ToldFault.{IfOpened, IsOfClub, IsReportedFault, fault_after}
+use Rattle.club_session.specs.ToldFault.{IfOpened, IsOfClub}
+use Rattle.club_session.specs.internal.ToldFault.{IsReportedFault, fault_after}
 
 -- ---- the club was not taken over
 

@@ -19,7 +19,8 @@ use Rattle.club_changes.specs.Steps.{KeepsClub, club_next}
 use Rattle.store.proofs.Proved.{taken_session, one_leads, one_cut}
 use Rattle.club_session.specs.Served.{DeskState, beside_them, next_of, served}
 use Rattle.club_session.specs.ServedStates.{IsServed, IsLeft, MayLeave}
-use Rattle.club_session.specs.Turns.{IsTurn, IsOrder, IsTurnOf, AreTurns, IsWhole, AreWhole, IsHistoryOn, IsReachableOn}
+use Rattle.club_session.specs.Turns.{IsTurn, IsOrder, IsTurnOf, AreTurns, IsWhole, AreWhole}
+use Rattle.club_session.specs.internal.Turns.{IsHistoryOn, IsReachableOn}
 use Rattle.control_socket.specs.declared.orders.Operation.{Operation}
 use Rattle.control_socket.specs.declared.orders.Operation.TheVariants as errand
 use Rattle.control_socket.specs.Orders.{HasRunOperation, order, state_after}

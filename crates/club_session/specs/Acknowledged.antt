@@ -1,7 +1,6 @@
 -- What a serving session served, and the states that it leaves.
-use Rattle.std.specs.Prelude.{◌≡◌, Bool, false, List}
+use Rattle.std.specs.Prelude.{List}
 use Rattle.sqlite.specs.Tree.{Trees}
-use Rattle.sqlite.specs.State.{State}
 use Rattle.sqlite_wal.specs.Recovery.{Image}
 use Rattle.store_tables.specs.Over.{Neighbours}
 use Rattle.club_rows.specs.Club.{ClubState}
@@ -9,13 +8,7 @@ use Rattle.store_files.specs.Finds.{IsFoundIn}
 use Rattle.server.specs.Acknowledged.{LeadTo}
 use Rattle.server.specs.declared.connections.Served.{Served}
 use Rattle.club_session.specs.Served.{DeskState, beside_them, served}
-use Rattle.club_session.specs.ServedStates.{IsLeftBy, IsServed}
-
--- After these items any crash leaves the tables of a state that they lead to; if no call has failed, the club is in
--- one.
-pub record IsAfter (needs_reopening : Bool) (now : State) (s : DeskState) (items : List Served) : Type 0 where
-  pub leaves : (db : Trees) → now.may_leave db → (t : DeskState) × LeadTo served s items t × IsLeftBy db t
-  pub stands : needs_reopening ≡ false → (t : DeskState) × LeadTo served s items t × IsServed needs_reopening now t
+use Rattle.club_session.specs.ServedStates.{IsLeftBy}
 
 -- The database holds the tables of a state to which these items lead from `s`, beside the same foreign tables.
 pub record IsLedTo (s : ClubState) (items : List Served) (found : Trees) : Type 0 where
@@ -27,13 +20,6 @@ pub record IsLedTo (s : ClubState) (items : List Served) (found : Trees) : Type 
 -- so does whatever an opening finds in the files
 abbrev pub AreLedTo : ClubState → List Served → Image → Type 0
 AreLedTo s items files = (found : Trees) → IsFoundIn files found → ∥ IsLedTo s items found ∥₁
-
--- Whatever is found is the tables of one state to which these items lead.
-pub record IsSettled (s : ClubState) (items : List Served) (MayFind : Trees → Type 0) : Type 0 where
-  pub them : Neighbours
-  pub after : DeskState
-  pub leads : LeadTo served (beside_them them s) items after
-  pub leaves : (found : Trees) → MayFind found → IsLeftBy found after
 
 -- the same of whatever an opening finds in the files that a crash may leave
 pub record AreSettled (s : ClubState) (items : List Served) (MayLeave : Image → Type 0) : Type 0 where

@@ -1,27 +1,8 @@
 -- The faults of the store, as the HTTP application reports them.
-use Rattle.std.specs.Prelude.{Result, Ok, Err}
-use Rattle.store.specs.declared.fault.StoreFault.{StoreFault}
-use Rattle.store.specs.declared.fault.StoreFault.TheVariants as club
-use Rattle.store.specs.declared.fault.AskFault.{AskFault}
-use Rattle.store.specs.declared.fault.AskFault.TheVariants as asking
 use Rattle.club_check.specs.declared.fault.OpenFault.{OpenFault}
 use Rattle.club_check.specs.declared.fault.OpenFault.TheVariants as opening
 use Rattle.http_desk.specs.declared.faults.ClubFault.{ClubFault}
-use Rattle.http_desk.specs.declared.faults.ClubFault.TheVariants.{Foreign, Schema, Damaged, Store, Reopen, Memory}
-
-abbrev pub fault_of_store : StoreFault → ClubFault
-fault_of_store club.Store = Store
-fault_of_store club.Reopen = Reopen
-fault_of_store club.Memory = Memory
-
-abbrev pub club_fault : {A : Type 0} → Result A StoreFault → Result A ClubFault
-club_fault (Ok found) = Ok found
-club_fault (Err fault) = Err (fault_of_store fault)
-
--- answers are written to memory, so a failed write means out of memory
-abbrev pub fault_of_question : AskFault → ClubFault
-fault_of_question (asking.Club fault) = fault_of_store fault
-fault_of_question asking.Output = Memory
+use Rattle.http_desk.specs.declared.faults.ClubFault.TheVariants.{Foreign, Schema, Damaged, Store, Memory}
 
 -- the fault of an opening, without the schema number or the damaged table
 abbrev pub fault_of_opening : OpenFault → ClubFault

@@ -1,5 +1,4 @@
 pub mod Acknowledged
-pub mod CacheSize
 pub mod Copied
 pub mod Faults
 pub mod Found
@@ -9,3 +8,4 @@ pub mod Served
 pub mod ServedStates
 pub mod ToldFault
 pub mod Turns
+pub mod internal

@@ -1,19 +1,12 @@
 -- A club of the store as the HTTP application sees it.
-use Rattle.std.specs.Prelude.{ℕ, List, Option, Some, None, Result, Ok, Err}
 use Rattle.store_tables.specs.Over.{Neighbours}
 use Rattle.club_core.specs.Answer.{answered}
 use Rattle.club_core.specs.State.{Request}
 use Rattle.club_rows.specs.Club.{ClubState}
-use Rattle.club_requests.specs.declared.refusals.Refusal.{Refusal}
 use Rattle.club_answers.specs.AnswerTexts.{IsShown}
 use Rattle.club_reads.specs.Keys.{member_by_key}
 use Rattle.club_changes.specs.Steps.{club_step, club_next}
 use Rattle.http_desk.specs.Served.{Club}
-
--- the bytes of the answer, or the refusal
-abbrev pub written : Option Refusal → List ℕ → Result (List ℕ) Refusal
-written None bytes = Ok bytes
-written (Some refusal) bytes = Err refusal
 
 -- a state of the club, and the foreign tables in its file
 pub record DeskState : Type 0 where

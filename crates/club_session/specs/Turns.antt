@@ -1,15 +1,11 @@
 -- Commands sent by members over HTTP and by the officer over the control socket, each a session of its own in the
 -- history.
-use Rattle.std.specs.Prelude.{◌≡◌, ◌≤◌, ◌⊎◌, ℕ, true, List, [], ◌∷◌, ◌++◌, ⊤}
-use Rattle.sqlite.specs.Tree.{Trees}
-use Rattle.sqlite.specs.State.{State}
-use Rattle.store_tables.specs.Over.{Neighbours}
-use Rattle.store_tables.specs.declared.names.Version.{Version}
+use Rattle.std.specs.Prelude.{◌≡◌, ◌≤◌, ◌⊎◌, ℕ, true, List, [], ◌∷◌, ⊤}
 use Rattle.club_requests.specs.Limits.{last_moment}
 use Rattle.club_core.specs.State.{Command, add_member, add_event, seat, import_record, on_game, sweep}
 use Rattle.club_core.specs.State.{open_challenge, withdraw_challenge, answer_challenge, Request, key_holder, officer}
 use Rattle.store.specs.Histories as history
-use Rattle.store.specs.Histories.{HistoryStep, IsReachable, IsHistory}
+use Rattle.store.specs.Histories.{HistoryStep}
 
 -- a command that members can send: on a game, or about a challenge
 abbrev pub IsMembers : Command → Type 0
@@ -57,18 +53,3 @@ IsWhole (history.upgraded to answered) = ⊥
 abbrev pub AreWhole : List HistoryStep → Type 0
 AreWhole [] = ⊤
 AreWhole (chapter ∷ chapters) = IsWhole chapter × AreWhole chapters
-
--- the history, with uncut commands added, leads to the present state, in this schema
-pub record IsHistoryOn (from version : Version) (them : Neighbours) (sessions : List HistoryStep) (now : State) : Type 0
-  where
-    pub turns : List HistoryStep
-    pub are_turns : AreTurns turns
-    pub whole : AreWhole turns
-    pub stands : IsHistory from version them (sessions ++ turns) now
-
--- the history, with commands added, leads to any state that a crash can leave, in this schema
-pub record IsReachableOn (from version : Version) (them : Neighbours) (sessions : List HistoryStep) (now : State) : Type 0
-  where
-    pub turns : List HistoryStep
-    pub are_turns : AreTurns turns
-    pub led : (db : Trees) → now.may_leave db → IsReachable from version them (sessions ++ turns) db

@@ -1,7 +1,7 @@
 //! The size of a connection's page cache.
 
 ghost use Rattle.std.specs.Prelude.{◌≡◌, ◌<◌};
-ghost use Rattle.club_session.specs.CacheSize.{cache_pages};
+ghost use Rattle.club_session.specs.internal.CacheSize.{cache_pages};
 
 use crate::preflight::{OpenMode, page_bytes};
 use std::fs::metadata;

@@ -1,7 +1,8 @@
 //! The faults of the store, as the HTTP application reports them.
 
 ghost use Rattle.std.specs.Prelude.{◌≡◌};
-ghost use Rattle.club_session.specs.Faults.{fault_of_store, club_fault, fault_of_question, fault_of_opening};
+ghost use Rattle.club_session.specs.Faults.{fault_of_opening};
+ghost use Rattle.club_session.specs.internal.Faults.{fault_of_store, club_fault, fault_of_question};
 
 use http_desk::ClubFault;
 use store::{AskFault, OpenFault, StoreFault};

@@ -11,11 +11,13 @@ ghost use Rattle.schema_match.specs.Shapes.{is_of_club};
 ghost use Rattle.club_rows.specs.Club.{ClubState, IsClub};
 ghost use Rattle.club_check.specs.Refused.{HoldClub};
 ghost use Rattle.server.specs.declared.connections.Served.{Served};
-ghost use Rattle.club_session.specs.Acknowledged.{IsAfter, IsLedTo, IsSettled};
+ghost use Rattle.club_session.specs.Acknowledged.{IsLedTo};
+ghost use Rattle.club_session.specs.internal.Acknowledged.{IsAfter, IsSettled};
 ghost use Rattle.club_session.specs.Served.{DeskState};
 ghost use Rattle.club_session.specs.ServedStates.{IsServed};
-ghost use Rattle.club_session.specs.ToldFault.{IfOpened, IsOfClub, IsReportedFault, fault_after};
-ghost use Rattle.club_session.specs.Turns.{IsHistoryOn, IsReachableOn};
+ghost use Rattle.club_session.specs.ToldFault.{IfOpened, IsOfClub};
+ghost use Rattle.club_session.specs.internal.ToldFault.{IsReportedFault, fault_after};
+ghost use Rattle.club_session.specs.internal.Turns.{IsHistoryOn, IsReachableOn};
 
 use crate::desk_club::DeskClub;
 use crate::faults::fault_of_opening;

@@ -2,7 +2,7 @@
 
 ghost use Rattle.std.specs.Prelude.{◌≡◌};
 ghost use Rattle.http_bodies.specs.ShownViews.{shown_view};
-ghost use Rattle.club_session.specs.Served.{written};
+ghost use Rattle.club_session.specs.internal.Served.{written};
 
 use club_requests::Refusal;
 

@@ -149,7 +149,7 @@ impl Toy {
 }
 
 impl ClubService for Toy {
-    ghost use Rattle.http_desk.specs.Closed.{closed};
+    ghost use Rattle.http_desk.specs.internal.Closed.{closed};
 
     ghost State = { Unit {0} };
 

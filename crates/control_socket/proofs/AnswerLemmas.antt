@@ -3,7 +3,8 @@ use Rattle.std.proofs.Common.{◌≡◌, ◌≢◌, ◌<◌, ◌^◌, ℕ, Bool,
 use Rattle.std.proofs.Common.{length, drop, decimal, refl, sym, ap, ◌∙◌, arith, append_assoc, append-nil}
 use Rattle.std.proofs.Common.{length-append}
 use Rattle.std.proofs.lemmas.List.{nil_from_length}
-use Rattle.control_socket.specs.Answers.{ReadsAnswer, IsAnswerIn, Tells, status_text, encode_answer}
+use Rattle.control_socket.specs.Answers.{status_text, encode_answer}
+use Rattle.control_socket.specs.internal.Answers.{ReadsAnswer, IsAnswerIn, Tells}
 use Rattle.control_socket.specs.declared.answers.OrderAnswer.{OrderAnswer}
 use Rattle.control_socket.proofs.ReadingLemmas.{apart, number_unique}
 

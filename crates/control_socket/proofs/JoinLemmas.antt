@@ -7,7 +7,7 @@ use Rattle.std.specs.declared.alloc.Global.{Global}
 use Rattle.std.specs.Prelude.{String}
 use Rattle.std.proofs.Math.Seq.{take-suc}
 use Rattle.std.proofs.lemmas.List.Splits.{slice_split_at, slice_split_none}
-use Rattle.control_socket.specs.Asking.{AreWords, joined, parted}
+use Rattle.control_socket.specs.internal.Asking.{AreWords, joined, parted}
 
 pub join_more : (xs : List (List ℕ)) (x : List ℕ) → 0 < length xs → joined (xs ++ x ∷ []) ≡ joined xs ++ 0 ∷ x
 join_more [] x some = absurd (omega arith)

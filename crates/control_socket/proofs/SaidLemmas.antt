@@ -5,8 +5,9 @@ use Rattle.std.proofs.Common.{length-append}
 use Rattle.std.proofs.lemmas.List.{append_cancel_left, nil_from_length}
 use Rattle.std.proofs.Math.Seq.{take-append_seam}
 use Rattle.std.proofs.lemmas.Fmt.{decimal_injective}
-use Rattle.control_socket.specs.Reading.{IsCut, Lacks}
-use Rattle.control_socket.specs.Said.{IsLine, IsFrameOf, IsWhole, IsWithin, DecodesOrder, line_of, encode_order}
+use Rattle.control_socket.specs.internal.Reading.{IsCut, Lacks}
+use Rattle.control_socket.specs.internal.Said.{IsLine, IsFrameOf, IsWhole, IsWithin, DecodesOrder, line_of}
+use Rattle.control_socket.specs.internal.Said.{encode_order}
 use Rattle.control_socket.specs.declared.frames.Frame.{Frame}
 use Rattle.control_socket.specs.declared.frames.Frame.TheVariants.{Part, File, Order, Nothing}
 use Rattle.control_socket.proofs.ReadingLemmas.{cut_unique, decimal_lacks, lacks_append, lacks_cons, lacks_cut}

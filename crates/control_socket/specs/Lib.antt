@@ -1,11 +1,4 @@
 pub mod Answers
-pub mod Asking
-pub mod Holding
-pub mod Modes
 pub mod Orders
-pub mod Peers
 pub mod Printed
-pub mod Reading
-pub mod Received
-pub mod Said
-pub mod Wishes
+pub mod internal

@@ -2,7 +2,8 @@
 
 ghost use Rattle.std.specs.Prelude.{◌≡◌, ◌≢◌, ◌++◌, ◌<◌, ℕ, Bool, List, Some, IfOk, MatchOption, codes};
 ghost use Rattle.std.specs.Prelude.{decimal, string_bytes};
-ghost use Rattle.control_socket.specs.Answers.{ReadsAnswer, IsAnswerIn, status_text, encode_answer};
+ghost use Rattle.control_socket.specs.Answers.{status_text, encode_answer};
+ghost use Rattle.control_socket.specs.internal.Answers.{ReadsAnswer, IsAnswerIn};
 
 use crate::reading::{number_before, strip_prefix};
 use std::alloc::{AllocError, Global};

@@ -3,9 +3,9 @@
 ghost use Rattle.std.specs.Prelude.{◌≡◌, ◌<◌, ◌≤◌, ◌++◌, ◌∷◌, ℕ, IfOk, IfSome, MatchOption, OnOk, OnSome, map};
 ghost use Rattle.std.specs.Prelude.{string_bytes, take};
 ghost use Rattle.std.specs.Io.KnownBytes.{Appends};
-ghost use Rattle.control_socket.specs.Asking.{AreWords, joined, parted};
+ghost use Rattle.control_socket.specs.internal.Asking.{AreWords, joined, parted};
 ghost use Rattle.control_socket.specs.Printed.{IsBegun, IsMade, print_of};
-ghost use Rattle.control_socket.specs.Said.{encode_order};
+ghost use Rattle.control_socket.specs.internal.Said.{encode_order};
 
 use crate::answers::{OrderAnswer, hear_answer};
 use crate::frames::encode_order;

@@ -1,8 +1,8 @@
 //! Requests at the control socket: decoding of a message into a lease request or an operation.
 
 ghost use Rattle.std.specs.Prelude.{◌≡◌, IfOk, map};
-ghost use Rattle.control_socket.specs.Asking.{IsOperationOf, operation_of, parted};
-ghost use Rattle.control_socket.specs.Wishes.{IsDecodedOperation, IsOrderRequest, IsControlRequest};
+ghost use Rattle.control_socket.specs.internal.Asking.{IsOperationOf, operation_of, parted};
+ghost use Rattle.control_socket.specs.internal.Wishes.{IsDecodedOperation, IsOrderRequest, IsControlRequest};
 
 use crate::frames::{Frame, OrderFrame, decode_frame};
 use crate::orders::Operation;

@@ -1,7 +1,7 @@
 //! The wire format of messages to the control socket: `file`, or an order with its command line and record.
 
 ghost use Rattle.std.specs.Prelude.{◌≡◌, ◌++◌, ◌<◌, ℕ, List, IfOk, MatchOption, length};
-ghost use Rattle.control_socket.specs.Said.{IsLine, IsFrameOf, IsWithin, DecodesOrder, encode_order};
+ghost use Rattle.control_socket.specs.internal.Said.{IsLine, IsFrameOf, IsWithin, DecodesOrder, encode_order};
 ghost use Rattle.control_socket.specs.declared.frames.Frame.TheVariants.{Part};
 
 use crate::reading::{number_before, number_in, split_once, strip_prefix};

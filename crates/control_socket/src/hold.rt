@@ -1,7 +1,7 @@
 //! The policy for releasing the file.
 
 ghost use Rattle.std.specs.Prelude.{◌≡◌};
-ghost use Rattle.control_socket.specs.Holding.{should_release};
+ghost use Rattle.control_socket.specs.internal.Holding.{should_release};
 
 /// Whether the server must release the file to a process that waits for it.
 ///

@@ -3,8 +3,8 @@
 //! A lease lasts until its holder disconnects.
 
 ghost use Rattle.std.specs.Prelude.{◌≡◌, ◌≢◌, ◌++◌, None, IfOk, codes, string_bytes, true};
-ghost use Rattle.control_socket.specs.Received.{HasReceived};
-ghost use Rattle.control_socket.specs.Wishes.{IsHeard};
+ghost use Rattle.control_socket.specs.internal.Received.{HasReceived};
+ghost use Rattle.control_socket.specs.internal.Wishes.{IsHeard};
 ghost use Rattle.control_socket.specs.declared.control_requests.ControlRequest.TheVariants as wish_is;
 
 use crate::control_requests::{ControlRequest, parse_request};

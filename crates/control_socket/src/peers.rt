@@ -1,7 +1,7 @@
 //! Whose server a command line sends an order to.
 
 ghost use Rattle.std.specs.Prelude.{◌≡◌};
-ghost use Rattle.control_socket.specs.Peers.{is_trusted};
+ghost use Rattle.control_socket.specs.internal.Peers.{is_trusted};
 
 use crate::listener::socket_path;
 use crate::places::FilePlace;

@@ -2,7 +2,7 @@
 
 ghost use Rattle.std.specs.Prelude.{◌≡◌};
 ghost use Rattle.std.specs.Fs.{permissions_mode};
-ghost use Rattle.control_socket.specs.Modes.{socket_mode};
+ghost use Rattle.control_socket.specs.internal.Modes.{socket_mode};
 
 use std::fs::{File, Permissions, canonicalize};
 use std::io;

@@ -3,7 +3,7 @@
 ghost use Rattle.std.specs.Prelude.{◌≡◌, ◌≢◌, ◌<◌, ◌≤◌, ◌++◌, ◌^◌, ◌∷◌, ℕ, List, MatchOption, decimal, length};
 ghost use Rattle.std.specs.Prelude.{slice_index};
 ghost use Rattle.std.specs.Prelude.{true, false};
-ghost use Rattle.control_socket.specs.Reading.{IsCut, Lacks};
+ghost use Rattle.control_socket.specs.internal.Reading.{IsCut, Lacks};
 
 /// The bytes after a prefix, if they have it.
 pub(crate) fn strip_prefix<'a>(bytes: &'a [u8], front: &[u8]) -> Option<&'a [u8]>

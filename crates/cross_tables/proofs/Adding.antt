@@ -15,7 +15,8 @@ use Rattle.std.proofs.lemmas.List.Sorted.{sum_by-IsPermutation}
 use Rattle.cross_tables.specs.declared.sums.ScoreTotals.{ScoreTotals}
 use Rattle.cross_tables.specs.declared.sums.OpponentScore.{OpponentScore}
 use Rattle.cross_tables.specs.declared.standings.Standing.{Standing}
-use Rattle.cross_tables.specs.Totals.{AreTotals, Fit, IsEachOnce, plus_sums, raised, total, totals, shown, times}
+use Rattle.cross_tables.specs.Totals.{AreTotals, IsEachOnce, total, shown, times}
+use Rattle.cross_tables.specs.internal.Totals.{Fit, plus_sums, raised, totals}
 
 -- what an element adds for a member
 abbrev pub adds : Bool → ℕ → ℕ

@@ -6,7 +6,8 @@ use Rattle.std.proofs.lemmas.Grind.{common_steps}
 use Rattle.std.proofs.lemmas.List.Sorted.{sorted_far}
 use Rattle.cross_tables.specs.declared.sums.OpponentScore.{OpponentScore}
 use Rattle.cross_tables.specs.declared.standings.Standing.{Standing}
-use Rattle.cross_tables.specs.Totals.{AreTotals, totals, times}
+use Rattle.cross_tables.specs.Totals.{AreTotals, times}
+use Rattle.cross_tables.specs.internal.Totals.{totals}
 use Rattle.cross_tables.specs.Places.{AreRanked, precedes}
 use Rattle.cross_tables.proofs.Adding.{adds, placed, stands-here, sums-at, times-cons}
 

@@ -1,5 +1,5 @@
 pub mod Cells
-pub mod Faults
 pub mod Lines
 pub mod Places
 pub mod Totals
+pub mod internal

@@ -1,24 +1,8 @@
 -- The totals of the members of an event.
-use Rattle.std.specs.Prelude.{◌≡◌, ◌+◌, ◌<◌, ◌≤◌, ◌^◌, ◌==◌, ℕ, List, sum_by, count_by, if◌then◌else◌}
+use Rattle.std.specs.Prelude.{◌≡◌, ◌+◌, ◌<◌, ◌≤◌, ◌==◌, ℕ, List, sum_by, count_by, if◌then◌else◌}
 use Rattle.cross_tables.specs.declared.sums.ScoreTotals.{ScoreTotals}
 use Rattle.cross_tables.specs.declared.sums.OpponentScore.{OpponentScore}
 use Rattle.cross_tables.specs.declared.standings.Standing.{Standing}
-
-abbrev pub plus_sums : ScoreTotals → ScoreTotals → ScoreTotals
-plus_sums a b =
-    record {
-      points = a.points + b.points;
-      wins = a.wins + b.wins;
-      draws = a.draws + b.draws;
-      losses = a.losses + b.losses;
-    }
-
--- Each of the four numbers fits in 32 bits.
-pub record Fit (sums : ScoreTotals) : Type 0 where
-  pub points : sums.points < 2 ^ 32
-  pub wins : sums.wins < 2 ^ 32
-  pub draws : sums.draws < 2 ^ 32
-  pub losses : sums.losses < 2 ^ 32
 
 -- The number of ended games.
 abbrev pub games : ScoreTotals → ℕ
@@ -29,16 +13,6 @@ games sums = sums.wins + sums.draws + sums.losses
 -- One of the four numbers, summed over a member's rows.
 abbrev pub total : (ScoreTotals → ℕ) → ℕ → List OpponentScore → ℕ
 total part member rows = sum_by (λ row. if row.member == member then part row.sums else 0) rows
-
--- The totals of a member.
-abbrev pub totals : ℕ → List OpponentScore → ScoreTotals
-totals member rows =
-    record {
-      points = total (λ s. s.points) member rows;
-      wins = total (λ s. s.wins) member rows;
-      draws = total (λ s. s.draws) member rows;
-      losses = total (λ s. s.losses) member rows;
-    }
 
 -- The number of a member's rows.
 abbrev pub rows_of : ℕ → List OpponentScore → ℕ
@@ -67,7 +41,3 @@ pub record AreTotals (standings : List Standing) (rows : List OpponentScore) : T
   pub wins : (member : ℕ) → shown (λ s. s.wins) member standings ≡ total (λ s. s.wins) member rows
   pub draws : (member : ℕ) → shown (λ s. s.draws) member standings ≡ total (λ s. s.draws) member rows
   pub losses : (member : ℕ) → shown (λ s. s.losses) member standings ≡ total (λ s. s.losses) member rows
-
--- A standing with more sums added.
-abbrev pub raised : Standing → ScoreTotals → Standing
-raised standing more = record { member = standing.member; sums = plus_sums standing.sums more }

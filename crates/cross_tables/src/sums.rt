@@ -1,7 +1,8 @@
 //! Points, wins, draws and losses.
 
 ghost use Rattle.std.specs.Prelude.{◌≡◌, IfSome, None};
-ghost use Rattle.cross_tables.specs.Totals.{Fit, plus_sums, games};
+ghost use Rattle.cross_tables.specs.Totals.{games};
+ghost use Rattle.cross_tables.specs.internal.Totals.{Fit, plus_sums};
 
 /// The points, wins, draws and losses of finished games.
 #[derive(Clone, Copy, Debug, PartialEq, Eq)]

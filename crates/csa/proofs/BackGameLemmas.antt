@@ -31,7 +31,7 @@ use Rattle.csa.specs.Records.{begins_even, end_in}
 use Rattle.csa.specs.Replays.{written_moves}
 use Rattle.csa.specs.Writing.{line_of, date_text, head_text, move_text, entry_text, entries_text, word_of, end_text}
 use Rattle.csa.specs.WrittenGame.{IsGameText}
-use Rattle.csa.specs.BackLaws.{IsKept, moves_of}
+use Rattle.csa.specs.internal.BackLaws.{IsKept, moves_of}
 use Rattle.csa.proofs.BackLineLemmas.{Every, every-all, IsOfLine, one-line, statement-then, alone-then, header-line}
 use Rattle.csa.proofs.BackMoveLemmas.{move-read, decimal-digits, seconds-read}
 

@@ -6,16 +6,17 @@ use Rattle.squares.specs.declared.sides.Side.TheVariants.{First}
 use Rattle.squares.specs.declared.sides.Score.{Score}
 use Rattle.squares.specs.declared.sides.Score.TheVariants as score
 use Rattle.squares.specs.declared.shogi.moves.SMove.{SMove}
-use Rattle.squares.specs.Sides.{loses, other, same_score, same_score-itself}
+use Rattle.squares.specs.Sides.{loses, other, same_score}
+use Rattle.squares.specs.internal.Sides.{same_score-itself}
 use Rattle.squares.specs.ShogiSets.{ShogiPosition}
 use Rattle.squares.specs.ShogiOpening.{opening}
-use Rattle.shogi_moves.specs.Declaring.{CanDeclareIs}
-use Rattle.shogi_moves.specs.Laws.{CheckIs}
+use Rattle.shogi_moves.specs.internal.Declaring.{CanDeclareIs}
+use Rattle.shogi_moves.specs.internal.Laws.{CheckIs}
 use Rattle.shogi_repetition.specs.declared.ends.SEnd.{SEnd}
 use Rattle.shogi_repetition.specs.declared.ends.SEnd.TheVariants as by_rule
 use Rattle.shogi_repetition.specs.Line.{last_position}
 use Rattle.shogi_repetition.specs.Ends.{outcome_of}
-use Rattle.shogi_repetition.specs.Laws.{NoLineHasTwoEnds}
+use Rattle.shogi_repetition.specs.internal.Laws.{NoLineHasTwoEnds}
 use Rattle.csa.specs.declared.end_words.EndWord.{EndWord}
 use Rattle.csa.specs.declared.end_words.EndWord.TheVariants as word
 use Rattle.csa.specs.declared.faults.CsaFault.{CsaFault}
@@ -25,11 +26,13 @@ use Rattle.csa.specs.declared.head.CsaEnd.TheVariants as csa_end
 use Rattle.csa.specs.declared.lines.NumberedStatement.{NumberedStatement}
 use Rattle.csa.specs.Endings.{claimed, fits_rules, agrees, claim_settled, ending, says_declared}
 use Rattle.csa.specs.Lines.{text_statements}
-use Rattle.csa.specs.Records.{Plays, score_in, IsRecordOf, RecordFails}
-use Rattle.csa.specs.Reading.{records_of, AreRecordsOf, FailsAfter, Refuses}
+use Rattle.csa.specs.Records.{Plays, score_in, RecordFails}
+use Rattle.csa.specs.internal.Records.{IsRecordOf}
+use Rattle.csa.specs.Reading.{records_of, FailsAfter, Refuses}
+use Rattle.csa.specs.internal.Reading.{AreRecordsOf}
 use Rattle.csa.specs.Writing.{recorded_word, rule_word, word_of}
-use Rattle.csa.specs.WrittenGame.{TellsEnd}
-use Rattle.csa.specs.BackLaws.{IsKept, moves_of, score_of, is_declared, WrittenIsRead, RunningIsRefused}
+use Rattle.csa.specs.internal.WrittenGame.{TellsEnd}
+use Rattle.csa.specs.internal.BackLaws.{IsKept, moves_of, score_of, is_declared, WrittenIsRead, RunningIsRefused}
 use Rattle.csa.proofs.OneReadingLemmas.{record-refuses, text-refuses}
 use Rattle.csa.proofs.BackGameLemmas.{IsWhole, text-whole, played-all}
 

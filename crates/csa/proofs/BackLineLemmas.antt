@@ -11,7 +11,7 @@ use Rattle.csa.specs.declared.statements.Statement.{Statement}
 use Rattle.csa.specs.declared.statements.Statement.TheVariants as statement
 use Rattle.csa.specs.Statements.{statement_of}
 use Rattle.csa.specs.Lines.{is_comment, is_header, placed_all, statements_on, statements_from}
-use Rattle.csa.specs.BackLaws.{IsOneLine}
+use Rattle.csa.specs.internal.BackLaws.{IsOneLine}
 
 abbrev pub Every : {X : Type 0} → (X → Type 0) → List X → Type 0
 Every P [] = Unit {0}

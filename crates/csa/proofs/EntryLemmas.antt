@@ -11,7 +11,7 @@ use Rattle.squares.specs.ShogiOpening.{opening}
 use Rattle.shogi_moves.specs.Rules.{Legal, play}
 use Rattle.shogi_repetition.specs.Line.{last_position}
 use Rattle.shogi_repetition.specs.Faults.{IsPlayed}
-use Rattle.csa.specs.BackLaws.{moves_of}
+use Rattle.csa.specs.internal.BackLaws.{moves_of}
 use Rattle.csa.specs.Writing.{entry_text, entries_text}
 
 move-at : (es : List (SMove × ℕ)) (i : ℕ) (e : SMove × ℕ) → i < length es → e ≡ get_or es i e

@@ -6,7 +6,8 @@ use Rattle.std.proofs.lemmas.Bool.{lt-ltb}
 use Rattle.std.proofs.lemmas.Grind.{common_steps}
 use Rattle.std.proofs.Math.Dec.{eqb-suc-zero}
 use Rattle.csa.specs.declared.lines.NumberedStatement.{NumberedStatement}
-use Rattle.csa.specs.Lines.{statements_on, statements_from, line_at}
+use Rattle.csa.specs.Lines.{statements_on, statements_from}
+use Rattle.csa.specs.internal.Lines.{line_at}
 
 -- an empty last part has no statement, as it is no line
 last-part : (n : ℕ) (x : List ℕ) → statements_from n (lines_of_parts (x ∷ [])) ≡ statements_on n x ++ []

@@ -16,11 +16,12 @@ use Rattle.squares.specs.ShogiPieces.{kind_of, hand_kind}
 use Rattle.squares.specs.ShogiSets.{ShogiPosition}
 use Rattle.squares.specs.ShogiOpening.{opening}
 use Rattle.shogi_moves.specs.Rules.{Legal, dropped_role, play}
-use Rattle.shogi_moves.specs.Laws.{CheckIs}
+use Rattle.shogi_moves.specs.internal.Laws.{CheckIs}
 use Rattle.shogi_repetition.specs.Line.{last_position}
 use Rattle.shogi_repetition.specs.Ends.{EndsSo}
-use Rattle.shogi_repetition.specs.Faults.{GoesOn, IsPlayed}
-use Rattle.shogi_repetition.specs.Laws.{NoLineHasTwoEnds}
+use Rattle.shogi_repetition.specs.Faults.{IsPlayed}
+use Rattle.shogi_repetition.specs.internal.Faults.{GoesOn}
+use Rattle.shogi_repetition.specs.internal.Laws.{NoLineHasTwoEnds}
 use Rattle.csa.specs.declared.faults.CsaFault.{CsaFault}
 use Rattle.csa.specs.declared.faults.CsaFault.TheVariants as fault
 use Rattle.csa.specs.declared.statements.WrittenMove.{WrittenMove}
@@ -33,9 +34,11 @@ use Rattle.csa.specs.declared.game.CsaGame.{CsaGame}
 use Rattle.csa.specs.declared.lines.NumberedStatement.{NumberedStatement}
 use Rattle.csa.specs.declared.statements.Statement.TheVariants as statement
 use Rattle.csa.specs.Lines.{text_statements}
-use Rattle.csa.specs.Records.{Plays, score_in, IsRecordOf, RecordFails}
-use Rattle.csa.specs.Reading.{records_of, AreOrdered, AreRecordsOf, FailsAfter, IsTextOf, Refuses, IsRefused}
-use Rattle.csa.specs.ReadingLaws.{SameGame, SameGames}
+use Rattle.csa.specs.Records.{Plays, score_in, RecordFails}
+use Rattle.csa.specs.internal.Records.{IsRecordOf}
+use Rattle.csa.specs.Reading.{records_of, AreOrdered, FailsAfter, Refuses, IsRefused}
+use Rattle.csa.specs.internal.Reading.{AreRecordsOf, IsTextOf}
+use Rattle.csa.specs.internal.ReadingLaws.{SameGame, SameGames}
 
 -- ---- the moves
 

@@ -7,10 +7,13 @@ use Rattle.squares.specs.declared.shogi.moves.SMove.{SMove}
 use Rattle.csa.specs.declared.faults.CsaFault.{CsaFault}
 use Rattle.csa.specs.declared.game.CsaGame.{CsaGame}
 use Rattle.csa.specs.declared.lines.NumberedStatement.{NumberedStatement}
-use Rattle.csa.specs.Replays.{written_in, written_moves, AreMoves, RefusesMoves}
-use Rattle.csa.specs.Replaying.{RefusesIn}
-use Rattle.csa.specs.Records.{IsRecordOf, RecordFails}
-use Rattle.csa.specs.Reading.{AreRecordsOf, AreOfGames, FailsOrMemory, has_statement, without_bare_last}
+use Rattle.csa.specs.Replays.{written_in, written_moves, AreMoves}
+use Rattle.csa.specs.internal.Replays.{RefusesMoves}
+use Rattle.csa.specs.internal.Replaying.{RefusesIn}
+use Rattle.csa.specs.Records.{RecordFails}
+use Rattle.csa.specs.internal.Records.{IsRecordOf}
+use Rattle.csa.specs.Reading.{AreOfGames, has_statement, without_bare_last}
+use Rattle.csa.specs.internal.Reading.{AreRecordsOf, FailsOrMemory}
 
 written_moves-append : (xs ys : List NumberedStatement) → written_moves (xs ++ ys) ≡ written_moves xs ++ written_moves ys
 written_moves-append [] ys = refl

@@ -10,16 +10,17 @@ use Rattle.squares.specs.ShogiSets.{ShogiPosition}
 use Rattle.squares.specs.ShogiOpening.{opening}
 use Rattle.shogi_moves.specs.declared.checking.Illegal.{Illegal}
 use Rattle.shogi_moves.specs.Rules.{Legal, FirstBroken, play}
-use Rattle.shogi_moves.specs.Computed.{check_of}
-use Rattle.shogi_moves.specs.Laws.{CheckIs}
+use Rattle.shogi_moves.specs.internal.Computed.{check_of}
+use Rattle.shogi_moves.specs.internal.Laws.{CheckIs}
 use Rattle.shogi_repetition.specs.declared.ends.SEnd.{SEnd}
 use Rattle.shogi_repetition.specs.Line.{last_position}
 use Rattle.shogi_repetition.specs.Ends.{EndsSo}
-use Rattle.shogi_repetition.specs.Faults.{shogi_lines, IsPlayed, HasFault}
-use Rattle.shogi_repetition.specs.Laws.{NoLineHasTwoEnds}
+use Rattle.shogi_repetition.specs.Faults.{shogi_lines, IsPlayed}
+use Rattle.shogi_repetition.specs.internal.Faults.{HasFault}
+use Rattle.shogi_repetition.specs.internal.Laws.{NoLineHasTwoEnds}
 use Rattle.csa.specs.declared.statements.WrittenMove.{WrittenMove}
 use Rattle.csa.specs.Moves.{Means, MeanAll}
-use Rattle.csa.specs.Replaying.{RefusesMade, fault_of}
+use Rattle.csa.specs.internal.Replaying.{RefusesMade, fault_of}
 
 -- a legal move breaks no rule
 pub legal-unbroken : CheckIs → (p : ShogiPosition) (m : SMove) (rule : Illegal) → Legal p m → FirstBroken p m rule → ⊥

@@ -5,7 +5,7 @@ use Rattle.std.specs.Io.KnownBytes.{Appends}
 use Rattle.std.proofs.KnownBytes.{Appends-trans}
 use Rattle.std.proofs.lemmas.List.{map-append, take_more}
 use Rattle.record_writer.specs.Pieces.{AppendsSome}
-use Rattle.record_writer.specs.PieceLaws.{begun-next, begun-longer}
+use Rattle.record_writer.specs.internal.PieceLaws.{begun-next, begun-longer}
 use Rattle.game_history.proofs.Proved.{last_position-append}
 use Rattle.squares.specs.declared.shogi.moves.SMove.{SMove}
 use Rattle.squares.specs.ShogiSets.{ShogiPosition}
@@ -14,10 +14,11 @@ use Rattle.shogi_moves.specs.Rules.{play}
 use Rattle.shogi_repetition.specs.Line.{last_position}
 use Rattle.csa.specs.declared.head.CsaHead.{CsaHead}
 use Rattle.csa.specs.declared.game_writer.GameWriter.{GameWriter}
-use Rattle.csa.specs.BackLaws.{moves_of}
+use Rattle.csa.specs.internal.BackLaws.{moves_of}
 use Rattle.csa.specs.Writing.{entry_text, entries_text, end_text}
-use Rattle.csa.specs.Writer.{lines_text, text_up_to, HasBegun, HasWritten, AddsEntry, BeginsEntry, Finishes, BeginsEnd}
-use Rattle.csa.specs.Writer.{BeginsGame, LinesBeginGames, MovesBeginGames}
+use Rattle.csa.specs.internal.Writer.{lines_text, text_up_to, HasBegun, HasWritten, AddsEntry, BeginsEntry, Finishes}
+use Rattle.csa.specs.internal.Writer.{BeginsEnd}
+use Rattle.csa.specs.internal.Writer.{BeginsGame, LinesBeginGames, MovesBeginGames}
 use Rattle.csa.specs.WrittenGame.{IsGameText}
 
 -- the text of moves that go on

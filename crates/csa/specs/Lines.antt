@@ -1,8 +1,8 @@
 -- The statements of a text, line by line.
-use Rattle.std.specs.Prelude.{ℕ, ◌+◌, ◌==◌, ◌||◌, nat_lt, Bool, true, false, List, [], ◌∷◌, ◌++◌, length, if◌then◌else◌}
-use Rattle.std.proofs.Common.{suc, get_or}
+use Rattle.std.specs.Prelude.{ℕ, ◌==◌, ◌||◌, Bool, true, false, List, [], ◌∷◌, ◌++◌, if◌then◌else◌}
+use Rattle.std.proofs.Common.{suc}
 use Rattle.std.specs.List.{slice_split}
-use Rattle.std.specs.Str.Lines.{lines, strip_carriage_return}
+use Rattle.std.specs.Str.Lines.{lines}
 use Rattle.csa.specs.declared.lines.NumberedStatement.{NumberedStatement}
 use Rattle.csa.specs.declared.statements.Statement.TheVariants as statement
 use Rattle.csa.specs.Statements.{statement_of}
@@ -43,7 +43,3 @@ statements_from line (text ∷ more) = statements_on line text ++ statements_fro
 -- The statements of a text. A line ends with a line feed and an optional carriage return before it.
 unfoldable pub text_statements : List ℕ → List NumberedStatement
 text_statements text = statements_from 1 (lines text)
-
--- the line of a part between line feeds; the last part has no line feed, so its carriage return stays
-abbrev pub line_at : List (List ℕ) → ℕ → List ℕ
-line_at parts i = if nat_lt (i + 1) (length parts) then strip_carriage_return (get_or parts i []) else get_or parts i []

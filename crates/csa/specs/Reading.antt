@@ -6,14 +6,13 @@ use Rattle.squares.specs.declared.sides.Score.{Score}
 use Rattle.squares.specs.declared.shogi.moves.SMove.{SMove}
 use Rattle.csa.specs.declared.faults.CsaFault.{CsaFault}
 use Rattle.csa.specs.declared.faults.CsaFault.TheVariants as fault
-use Rattle.csa.specs.declared.game.CsaGame.{CsaGame}
 use Rattle.csa.specs.declared.lines.NumberedStatement.{NumberedStatement}
 use Rattle.csa.specs.declared.order.RecordStage.TheVariants as place
 use Rattle.csa.specs.declared.statements.Statement.{Statement}
 use Rattle.csa.specs.declared.statements.Statement.TheVariants as statement
 use Rattle.csa.specs.Lines.{text_statements}
 use Rattle.csa.specs.Order.{first_stray}
-use Rattle.csa.specs.Records.{IsRecordWith, IsRecordOf, RecordFails}
+use Rattle.csa.specs.Records.{IsRecordWith, RecordFails}
 
 -- whether a statement is the `/` that separates records
 abbrev pub is_parting : Statement → Bool
@@ -45,13 +44,6 @@ without_bare_last (part ∷ next ∷ more) = part ∷ without_bare_last (next �
 abbrev pub records_of : List NumberedStatement → List (List NumberedStatement)
 records_of placed = without_bare_last (slice_split (λ each. is_parting each.statement) placed)
 
--- the records are those of the games
-abbrev pub AreRecordsOf : List (List NumberedStatement) → List CsaGame → Type 0
-AreRecordsOf [] [] = Unit {0}
-AreRecordsOf [] (game ∷ games) = ⊥
-AreRecordsOf (placed ∷ records) [] = ⊥
-AreRecordsOf (placed ∷ records) (game ∷ games) = IsRecordOf placed game × AreRecordsOf records games
-
 -- the record is that of some game
 abbrev pub IsOfGame : List NumberedStatement → Type 0
 IsOfGame placed = (ms : List SMove) × (score : Score) × (wins : Bool) × IsRecordWith placed ms score wins
@@ -66,11 +58,6 @@ pub record AreOrdered (placed : List NumberedStatement) : Type 0 where
   pub version : first_statement placed ≡ Some statement.Version
   pub order : first_stray place.Start placed ≡ None
 
--- the text consists of the records of these games
-pub record IsTextOf (text : List ℕ) (games : List CsaGame) : Type 0 where
-  pub ordered : AreOrdered (text_statements text)
-  pub records : AreRecordsOf (records_of (text_statements text)) games
-
 -- each record before this one is that of a game, and this one has the fault
 pub record FailsAfter (records : List (List NumberedStatement)) (f : CsaFault) : Type 0 where
   pub before : List (List NumberedStatement)
@@ -79,10 +66,6 @@ pub record FailsAfter (records : List (List NumberedStatement)) (f : CsaFault) :
   pub parts : records ≡ before ++ failing ∷ after
   pub read : AreOfGames before
   pub fails : RecordFails failing f
-
--- out of memory, or a record has the fault
-abbrev pub FailsOrMemory : List (List NumberedStatement) → CsaFault → Type 0
-FailsOrMemory records f = (f ≡ fault.Memory) ⊎ FailsAfter records f
 
 -- the statements are in order, and the first faulty record has the fault
 abbrev pub SomeRecordFails : List NumberedStatement → CsaFault → Type 0

@@ -12,7 +12,6 @@ use Rattle.csa.specs.declared.end_words.EndWord.{EndWord}
 use Rattle.csa.specs.declared.faults.CsaFault.{CsaFault}
 use Rattle.csa.specs.declared.faults.CsaFault.TheVariants as fault
 use Rattle.csa.specs.declared.lines.NumberedStatement.{NumberedStatement}
-use Rattle.csa.specs.declared.game.CsaGame.{CsaGame}
 use Rattle.csa.specs.declared.statements.Statement.{Statement}
 use Rattle.csa.specs.declared.statements.Statement.TheVariants as statement
 use Rattle.csa.specs.Endings.{ending, says_declared}
@@ -57,10 +56,6 @@ pub record IsRecordWith (placed : List NumberedStatement) (ms : List SMove) (s :
   pub plays : Plays placed ms end
   pub score : score_in placed ms end ≡ Ok s
   pub declared : wins ≡ says_declared (end_in placed)
-
--- the record is that of the game
-abbrev pub IsRecordOf : List NumberedStatement → CsaGame → Type 0
-IsRecordOf placed game = IsRecordWith placed game.moves.items game.score game.declared
 
 -- all moves of the record are legal, and its end has the fault
 pub record EndFails (placed : List NumberedStatement) (f : CsaFault) : Type 0 where

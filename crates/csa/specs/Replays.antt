@@ -55,7 +55,3 @@ pub record RefusesMove (ws : List WrittenMove) (fault : CsaFault) : Type 0 where
   pub moves : List SMove
   pub played : AreMoves before moves
   pub refuses : RefusesNext moves refused fault
-
--- out of memory, or one of the written moves is refused
-abbrev pub RefusesMoves : List WrittenMove → CsaFault → Type 0
-RefusesMoves ws f = (f ≡ fault.Memory) ⊎ RefusesMove ws f

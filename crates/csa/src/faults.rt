@@ -1,7 +1,7 @@
 //! The errors of the reader.
 
 ghost use Rattle.std.specs.Prelude.{◌≡◌};
-ghost use Rattle.csa.specs.Causes.{cause_number};
+ghost use Rattle.csa.specs.internal.Causes.{cause_number};
 
 use shogi_moves::{Illegal, Memory};
 use std::alloc::{AllocError, AllocFailed};
@@ -46,7 +46,7 @@ fn cause_number(cause: Illegal) -> u8
 
 impl fmt::Display for CsaFault {
     ghost use Rattle.std.specs.Prelude.{Some};
-    ghost use Rattle.csa.specs.FaultText.{fault_text};
+    ghost use Rattle.csa.specs.internal.FaultText.{fault_text};
 
     ghost output = { λ fault. Some (fault_text fault) };
 

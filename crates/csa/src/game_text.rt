@@ -4,7 +4,8 @@ ghost use Rattle.squares.specs.ShogiOpening.{opening};
 ghost use Rattle.shogi_repetition.specs.Line.{last_position};
 ghost use Rattle.shogi_repetition.specs.Faults.{IsPlayed};
 ghost use Rattle.csa.specs.Writing.{entries_text};
-ghost use Rattle.csa.specs.WrittenGame.{FitsEnd, IsGameText};
+ghost use Rattle.csa.specs.WrittenGame.{IsGameText};
+ghost use Rattle.csa.specs.internal.WrittenGame.{FitsEnd};
 
 use crate::head::CsaHead;
 use crate::writing::{push_end, push_entry, push_head};

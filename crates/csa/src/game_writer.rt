@@ -23,9 +23,10 @@ pub struct GameWriter {
 }
 
 impl GameWriter {
-    ghost use Rattle.csa.specs.Writer.{lines_text, HasBegun, HasWritten, MayFollow, MayEnd, AddsEntry, BeginsEntry};
-    ghost use Rattle.csa.specs.Writer.{StandsStill};
-    ghost use Rattle.csa.specs.Writer.{Finishes, BeginsEnd};
+    ghost use Rattle.csa.specs.internal.Writer.{lines_text, HasBegun, HasWritten, MayFollow, MayEnd, AddsEntry};
+    ghost use Rattle.csa.specs.internal.Writer.{BeginsEntry};
+    ghost use Rattle.csa.specs.internal.Writer.{StandsStill};
+    ghost use Rattle.csa.specs.internal.Writer.{Finishes, BeginsEnd};
 
     /// Writes the lines before the moves.
     ///

@@ -1,7 +1,7 @@
 //! Theorems about the reader and the writers of this crate, for use by other crates.
-ghost use Rattle.csa.specs.BackLaws.{WrittenIsRead, RunningIsRefused};
-ghost use Rattle.csa.specs.ReadingLaws.{TextsAreOfOne, TextsOfGamesAreRead};
-ghost use Rattle.csa.specs.Writer.{LinesBeginGames, MovesBeginGames};
+ghost use Rattle.csa.specs.internal.BackLaws.{WrittenIsRead, RunningIsRefused};
+ghost use Rattle.csa.specs.internal.ReadingLaws.{TextsAreOfOne, TextsOfGamesAreRead};
+ghost use Rattle.csa.specs.internal.Writer.{LinesBeginGames, MovesBeginGames};
 
 use shogi_moves::laws::{can_declare_is, check_is};
 use shogi_repetition::laws::each_line_has_one_end;

@@ -2,7 +2,8 @@
 ghost use Rattle.std.specs.Prelude.{◌≡◌, ◌+◌, ◌++◌, ◌<◌, ◌==◌, IfOk, OnOk, map, length};
 ghost use Rattle.std.specs.List.{slice_split};
 ghost use Rattle.std.specs.Str.Lines.{strip_carriage_return, lines_of_parts};
-ghost use Rattle.csa.specs.Lines.{is_comment, is_header, placed_of, placed_all, line_at, statements_from};
+ghost use Rattle.csa.specs.Lines.{is_comment, is_header, placed_of, placed_all, statements_from};
+ghost use Rattle.csa.specs.internal.Lines.{line_at};
 ghost use Rattle.csa.specs.Lines.{statements_on, text_statements};
 
 use crate::statements::{Statement, statement_of};

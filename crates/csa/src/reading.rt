@@ -2,7 +2,8 @@
 ghost use Rattle.std.specs.Prelude.{◌≡◌, ◌≤◌, IfOk, IfErr, OnOk, length, map, take};
 ghost use Rattle.std.specs.List.{slice_split};
 ghost use Rattle.csa.specs.Reading.{is_parting, is_header_statement, first_statement, has_statement, without_bare_last};
-ghost use Rattle.csa.specs.Reading.{records_of, AreOrdered, AreRecordsOf, FailsOrMemory, Refuses, IsTextOf, IsRefused};
+ghost use Rattle.csa.specs.Reading.{records_of, AreOrdered, Refuses, IsRefused};
+ghost use Rattle.csa.specs.internal.Reading.{AreRecordsOf, FailsOrMemory, IsTextOf};
 
 use crate::faults::CsaFault;
 use crate::game::CsaGame;

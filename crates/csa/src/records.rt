@@ -3,8 +3,9 @@ ghost use Rattle.std.specs.Prelude.{◌≡◌, true, IfOk, IfErr};
 ghost use Rattle.squares.specs.ShogiOpening.{opening};
 ghost use Rattle.csa.specs.Moves.{MeanAll};
 ghost use Rattle.csa.specs.Replays.{written_moves};
-ghost use Rattle.csa.specs.Replaying.{IsConsistent};
-ghost use Rattle.csa.specs.Records.{is_even, begins_even, end_in, IsRecordOf, RecordFails};
+ghost use Rattle.csa.specs.internal.Replaying.{IsConsistent};
+ghost use Rattle.csa.specs.Records.{is_even, begins_even, end_in, RecordFails};
+ghost use Rattle.csa.specs.internal.Records.{IsRecordOf};
 
 use crate::end_words::EndWord;
 use crate::endings::{ending, says_declared};

@@ -2,9 +2,11 @@
 ghost use Rattle.std.specs.Prelude.{[], ◌∷◌, ◌++◌, ◌≡◌, IfOk, IfErr, OnOk};
 ghost use Rattle.squares.specs.ShogiOpening.{opening};
 ghost use Rattle.csa.specs.Moves.{Means, MeanAll};
-ghost use Rattle.csa.specs.Replays.{written_moves, RefusesNext, RefusesMoves};
-ghost use Rattle.csa.specs.Replaying.{IsConsistent, GrowsBy, GrowsWith, RefusesMade, RefusesWritten, RefusesIn};
-ghost use Rattle.csa.specs.Replaying.{fault_of};
+ghost use Rattle.csa.specs.Replays.{written_moves, RefusesNext};
+ghost use Rattle.csa.specs.internal.Replays.{RefusesMoves};
+ghost use Rattle.csa.specs.internal.Replaying.{IsConsistent, GrowsBy, GrowsWith, RefusesMade, RefusesWritten};
+ghost use Rattle.csa.specs.internal.Replaying.{RefusesIn};
+ghost use Rattle.csa.specs.internal.Replaying.{fault_of};
 ghost use Rattle.squares.specs.declared.shogi.moves.SMove.{SMove};
 
 use crate::faults::CsaFault;

@@ -3,7 +3,7 @@ ghost use Rattle.std.specs.Prelude.{◌≡◌, ◌<◌, ◌++◌, ◌∷◌, [],
 ghost use Rattle.shogi_moves.specs.Rules.{arrived, dropped_role};
 ghost use Rattle.csa.specs.Writing.{line_of, two_digits, then_two, date_text, side_sign, square_text, source_text};
 ghost use Rattle.csa.specs.Writing.{target_text, entry_text, recorded_word, rule_word, word_of, end_text};
-ghost use Rattle.csa.specs.Writer.{lines_text};
+ghost use Rattle.csa.specs.internal.Writer.{lines_text};
 
 use crate::codes::code_of;
 use crate::end_words::EndWord;

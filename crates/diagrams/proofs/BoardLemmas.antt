@@ -9,7 +9,7 @@ use Rattle.std.proofs.lemmas.List.{append_cancel_left}
 use Rattle.squares.specs.declared.shogi.piece.SPiece.{SPiece}
 use Rattle.squares.specs.ShogiBoard.{ShogiBoard}
 use Rattle.squares.specs.ShogiGeometry.{shogi_number}
-use Rattle.diagrams.specs.Laws.{KeepsToShogiSquares}
+use Rattle.diagrams.specs.internal.Laws.{KeepsToShogiSquares}
 use Rattle.diagrams.specs.ShogiLines.{squares_text, ranks_text}
 
 -- A square's text, from which its piece is read, and a rank's text.

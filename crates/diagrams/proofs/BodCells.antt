@@ -12,7 +12,7 @@ use Rattle.squares.specs.declared.shogi.piece.SPiece.{SPiece}
 use Rattle.squares.specs.ShogiBoard.{ShogiBoard}
 use Rattle.diagrams.specs.BodNames.{empty_square, side_mark, role_name, digit_name, cell_text}
 use Rattle.diagrams.specs.BodDiagram.{squares_text, rank_text, ranks_text, heading, border, board_text}
-use Rattle.diagrams.specs.Laws.{KeepsToShogiSquares}
+use Rattle.diagrams.specs.internal.Laws.{KeepsToShogiSquares}
 use Rattle.diagrams.proofs.BoardLemmas as boards
 
 -- the three bytes of a name as one number

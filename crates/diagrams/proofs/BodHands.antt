@@ -8,7 +8,7 @@ use Rattle.std.proofs.lemmas.List.FromFn.{get_or-map-range_with_len}
 use Rattle.squares.specs.declared.shogi.piece.HandKind.{HandKind}
 use Rattle.squares.specs.declared.shogi.piece.HandKind.TheVariants as in_hand
 use Rattle.squares.specs.declared.shogi.hand.Hand.{Hand}
-use Rattle.squares.specs.DraughtsMarks.{nat_eq_same}
+use Rattle.squares.specs.internal.DraughtsMarks.{nat_eq_same}
 use Rattle.squares.specs.ShogiPieces.{on_board, demoted}
 use Rattle.diagrams.specs.BodNames.{role_name, ten, wide_blank, nothing, count_name}
 use Rattle.diagrams.specs.BodDiagram.{held_text, hand_text}

@@ -6,7 +6,7 @@ use Rattle.squares.specs.declared.sides.Side.TheVariants.{First, Second}
 use Rattle.squares.specs.ShogiBoard.{ShogiBoard}
 use Rattle.diagrams.specs.BodDiagram.{heading, board_text, hand_name, hand_text, bod_text, turn_line}
 use Rattle.diagrams.specs.ShogiLines.{hand_kinds}
-use Rattle.diagrams.specs.Laws.{TellsBod}
+use Rattle.diagrams.specs.internal.Laws.{TellsBod}
 use Rattle.diagrams.proofs.BodCells.{boards-apart}
 use Rattle.diagrams.proofs.BodHands.{IsLineEnd, hands-apart}
 use Rattle.diagrams.proofs.PositionLemmas.{positions-apart}

@@ -14,7 +14,7 @@ use Rattle.squares.specs.declared.sides.Side.TheVariants.{First, Second}
 use Rattle.squares.specs.DraughtsBoard.{Board}
 use Rattle.squares.specs.DraughtsGeometry.{row_of, column_of}
 use Rattle.diagrams.specs.DraughtsDiagram.{piece_letter, cell_sign, row_text, diagram_text}
-use Rattle.diagrams.specs.Laws.{KeepsToSquares, TellsDraughts}
+use Rattle.diagrams.specs.internal.Laws.{KeepsToSquares, TellsDraughts}
 
 -- what a sign stands for
 abbrev read_sign : ℕ → Option DPiece

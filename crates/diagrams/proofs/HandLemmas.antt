@@ -5,7 +5,8 @@ use Rattle.squares.specs.declared.shogi.piece.HandKind.{HandKind}
 use Rattle.squares.specs.declared.shogi.piece.HandKind.TheVariants as in_hand
 use Rattle.squares.specs.declared.shogi.hand.Hand.{Hand}
 use Rattle.squares.specs.ShogiHands.{count_of}
-use Rattle.squares.specs.ShogiSets.{ShogiPosition, IsShogiPosition, set_size}
+use Rattle.squares.specs.ShogiSets.{ShogiPosition}
+use Rattle.squares.specs.internal.ShogiSets.{IsShogiPosition, set_size}
 use Rattle.diagrams.specs.ShogiLines.{kinds_text, hand_kinds, or_else}
 
 -- ---- hands of a position hold few of each kind

@@ -7,7 +7,7 @@ use Rattle.std.proofs.lemmas.Grind.{common_steps}
 use Rattle.std.proofs.lemmas.Fmt.{decimal_digit, decimal_step}
 use Rattle.squares.specs.declared.shogi.piece.HandKind.{HandKind}
 use Rattle.squares.specs.declared.shogi.hand.Hand.{Hand}
-use Rattle.squares.specs.DraughtsMarks.{nat_eq_same}
+use Rattle.squares.specs.internal.DraughtsMarks.{nat_eq_same}
 use Rattle.squares.specs.ShogiPieces.{on_board}
 use Rattle.diagrams.specs.ShogiLetters.{capital}
 use Rattle.diagrams.specs.ShogiLines.{hand_kinds}

@@ -3,8 +3,9 @@ use Rattle.std.proofs.Common.{◌≡◌, ℕ, List, ◌∷◌, ◌++◌, drop, a
 use Rattle.std.proofs.lemmas.List.{append_cancel_left}
 use Rattle.squares.specs.declared.shogi.hand.Hand.{Hand}
 use Rattle.squares.specs.ShogiBoard.{ShogiBoard}
-use Rattle.squares.specs.ShogiSets.{ShogiPosition, IsShogiPosition}
-use Rattle.diagrams.specs.Laws.{KeepsToShogiSquares}
+use Rattle.squares.specs.ShogiSets.{ShogiPosition}
+use Rattle.squares.specs.internal.ShogiSets.{IsShogiPosition}
+use Rattle.diagrams.specs.internal.Laws.{KeepsToShogiSquares}
 use Rattle.diagrams.proofs.HandLemmas.{IsFew, few-first, few-second}
 
 -- The names of the hands, the texts of a hand and of a board, and what stands behind the hands.

@@ -12,7 +12,7 @@ use Rattle.squares.specs.ShogiBoard.{ShogiBoard}
 use Rattle.diagrams.specs.ShogiDiagram.{cell_text, squares_text, rank_text, ranks_text, heading, board_text, hand_text}
 use Rattle.diagrams.specs.ShogiDiagram.{shogi_text}
 use Rattle.diagrams.specs.ShogiLines.{hand_kinds}
-use Rattle.diagrams.specs.Laws.{KeepsToShogiSquares, TellsShogi}
+use Rattle.diagrams.specs.internal.Laws.{KeepsToShogiSquares, TellsShogi}
 use Rattle.diagrams.proofs.BoardLemmas as boards
 use Rattle.diagrams.proofs.LetterHands.{IsLineEnd, hands-apart}
 use Rattle.diagrams.proofs.PositionLemmas.{positions-apart}

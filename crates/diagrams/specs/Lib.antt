@@ -1,8 +1,8 @@
 pub mod BodDiagram
 pub mod BodNames
 pub mod DraughtsDiagram
-pub mod Laws
 pub mod Numbers
 pub mod ShogiDiagram
 pub mod ShogiLetters
 pub mod ShogiLines
+pub mod internal

@@ -1,5 +1,5 @@
 //! Lemmas: a diagram determines its position.
-ghost use Rattle.diagrams.specs.Laws.{TellsDraughts, TellsShogi, TellsBod};
+ghost use Rattle.diagrams.specs.internal.Laws.{TellsDraughts, TellsShogi, TellsBod};
 
 /// Lemma: draughts positions with the same diagram and the same side to move are equal.
 pub fn tells_draughts()

@@ -1,7 +1,8 @@
 //! Shogi diagrams with the letters of SFEN (http://hgm.nubati.net/usi.html).
 ghost use Rattle.std.specs.Prelude.{◌≡◌, ◌++◌, ◌∷◌, [], ◌<◌, ◌≤◌, OnOk, IfOk, string_bytes};
 ghost use Rattle.std.specs.FinMap as map;
-ghost use Rattle.squares.specs.ShogiGeometry.{OnShogiBoard, shogi_number};
+ghost use Rattle.squares.specs.ShogiGeometry.{shogi_number};
+ghost use Rattle.squares.specs.internal.ShogiGeometry.{OnShogiBoard};
 ghost use Rattle.diagrams.specs.ShogiLetters.{capital, piece_letter, cell_mark, cell_letter};
 ghost use Rattle.diagrams.specs.ShogiDiagram.{squares_text, rank_text, heading, board_text, held_text, kinds_text};
 ghost use Rattle.diagrams.specs.ShogiDiagram.{hand_text, hand_line, shogi_text};

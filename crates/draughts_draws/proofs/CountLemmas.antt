@@ -8,11 +8,12 @@ use Rattle.game_history.specs.Line as line
 use Rattle.game_history.proofs.Proved as lines
 use Rattle.squares.specs.declared.draughts.moves.DMove.{DMove}
 use Rattle.squares.specs.DraughtsBoard.{Position}
-use Rattle.squares.specs.DraughtsSamePosition.{same_position, same_position-same, same_position-itself}
+use Rattle.squares.specs.DraughtsSamePosition.{same_position}
+use Rattle.squares.specs.internal.DraughtsSamePosition.{same_position-same, same_position-itself}
 use Rattle.draughts_moves.specs.declared.checking.Illegal.{Illegal}
 use Rattle.draughts_moves.specs.Legal.{Legal, play}
-use Rattle.draughts_moves.specs.Check.{check_of}
-use Rattle.draughts_moves.specs.Search.{has_move}
+use Rattle.draughts_moves.specs.internal.Check.{check_of}
+use Rattle.draughts_moves.specs.internal.Search.{has_move}
 use Rattle.draughts_draws.specs.declared.counts.DrawCounts.{DrawCounts}
 use Rattle.draughts_draws.specs.declared.ends.DEnd.{DEnd}
 use Rattle.draughts_draws.specs.declared.ends.DEnd.TheVariants.{NoMove, Repetition, KingMoves}
@@ -22,10 +23,11 @@ use Rattle.draughts_draws.specs.declared.tails.Class.{Class}
 use Rattle.draughts_draws.specs.declared.tails.Tail.{Tail}
 use Rattle.draughts_draws.specs.Line.{last_position}
 use Rattle.draughts_draws.specs.Ends.{is_king_move, end_of}
-use Rattle.draughts_draws.specs.Faults.{draughts_lines, HasFault}
+use Rattle.draughts_draws.specs.Faults.{draughts_lines}
+use Rattle.draughts_draws.specs.internal.Faults.{HasFault}
 use Rattle.draughts_draws.specs.Tails.{in_class, class_of, first_tail, count_on, next_tail, class_end, end_or}
 use Rattle.draughts_draws.specs.Tails.{end_by}
-use Rattle.draughts_draws.specs.Counting.{Follows}
+use Rattle.draughts_draws.specs.internal.Counting.{Follows}
 use Rattle.draughts_draws.proofs.TailLemmas.{tail-begins, tail-goes-on, ends-by-tail}
 
 -- ---- the numbers

@@ -5,7 +5,7 @@ use Rattle.std.specs.Prelude.{IsTrue, ◌↔◌, if◌then◌else◌}
 use Rattle.squares.specs.declared.draughts.moves.DMove.{DMove}
 use Rattle.squares.specs.DraughtsBoard.{Position}
 use Rattle.squares.specs.TheOnly.{TheOnly}
-use Rattle.draughts_moves.specs.Search.{has_move}
+use Rattle.draughts_moves.specs.internal.Search.{has_move}
 use Rattle.draughts_moves.proofs.Proved.{move-answer}
 use Rattle.draughts_draws.specs.declared.ends.DEnd.{DEnd}
 use Rattle.draughts_draws.specs.declared.ends.DEnd.TheVariants.{NoMove, Repetition, KingMoves, ThreeToOne, TwoToOne}

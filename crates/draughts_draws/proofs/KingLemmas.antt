@@ -8,7 +8,7 @@ use Rattle.squares.specs.declared.draughts.piece.DPiece.{DPiece}
 use Rattle.squares.specs.declared.sides.Side.{Side}
 use Rattle.squares.specs.declared.sides.Side.TheVariants.{First, Second}
 use Rattle.squares.specs.DraughtsBoard.{Position}
-use Rattle.squares.specs.DraughtsKept.{is_king}
+use Rattle.squares.specs.internal.DraughtsKept.{is_king}
 use Rattle.squares.specs.Sides.{same_side}
 use Rattle.draughts_draws.specs.Ends.{is_king_of, count_of_pieces, count_of_kings, has_lone_king, has_three, has_two}
 use Rattle.draughts_draws.specs.Ends.{is_three_to_one, is_two_to_one}

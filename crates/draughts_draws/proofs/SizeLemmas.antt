@@ -6,11 +6,11 @@ use Rattle.std.specs.FinSet as set
 use Rattle.std.proofs.lemmas.Bool.{cases_lt, false≢true}
 use Rattle.squares.specs.declared.draughts.piece.DPiece.{DPiece}
 use Rattle.squares.specs.declared.sides.Side.{Side}
-use Rattle.squares.specs.DraughtsBoard.{is_of}
-use Rattle.squares.specs.DraughtsGeometry.{OnBoard}
-use Rattle.squares.specs.DraughtsKept.{is_king}
+use Rattle.squares.specs.internal.DraughtsBoard.{is_of}
+use Rattle.squares.specs.internal.DraughtsGeometry.{OnBoard}
+use Rattle.squares.specs.internal.DraughtsKept.{is_king}
 use Rattle.squares.specs.DraughtsSets.{Squares}
-use Rattle.draughts_moves.specs.Counting.{count_squares}
+use Rattle.draughts_moves.specs.internal.Counting.{count_squares}
 use Rattle.draughts_moves.proofs.Proved as moves
 use Rattle.draughts_draws.specs.Ends.{is_piece_of, is_king_of}
 

@@ -10,9 +10,9 @@ use Rattle.game_history.proofs.Proved.{last_position-append, positions-append}
 use Rattle.squares.specs.declared.sides.Side.TheVariants.{First, Second}
 use Rattle.squares.specs.declared.draughts.moves.DMove.{DMove}
 use Rattle.squares.specs.DraughtsBoard.{Position}
-use Rattle.squares.specs.RunLemmas.{end_so-run, suffix_len-more}
+use Rattle.squares.specs.internal.RunLemmas.{end_so-run, suffix_len-more}
 use Rattle.draughts_moves.specs.Legal.{play}
-use Rattle.draughts_moves.specs.Search.{has_move}
+use Rattle.draughts_moves.specs.internal.Search.{has_move}
 use Rattle.draughts_draws.specs.declared.ends.DEnd.TheVariants.{NoMove, Repetition, KingMoves, ThreeToOne, TwoToOne}
 use Rattle.draughts_draws.specs.declared.ends.DEnd.TheVariants.{PlyLimit}
 use Rattle.draughts_draws.specs.declared.tails.Class.{Class}
@@ -21,8 +21,10 @@ use Rattle.draughts_draws.specs.Line.{last_position, positions}
 use Rattle.draughts_draws.specs.Ends.{is_king_move, count_of_pieces}
 use Rattle.draughts_draws.specs.Ends.{is_three_to_one, is_two_to_one, stands_thrice, are_king_moves, ends_with}
 use Rattle.draughts_draws.specs.Ends.{first_end, end_of}
-use Rattle.draughts_draws.specs.Tails.{in_class, class_of, run_in, tail_of, first_count, first_tail, count_on}
-use Rattle.draughts_draws.specs.Tails.{class_count, next_tail, end_or, end_by, times_stood}
+use Rattle.draughts_draws.specs.Tails.{in_class, class_of, first_count, first_tail, count_on}
+use Rattle.draughts_draws.specs.internal.Tails.{run_in, tail_of}
+use Rattle.draughts_draws.specs.Tails.{class_count, next_tail, end_or, end_by}
+use Rattle.draughts_draws.specs.internal.Tails.{times_stood}
 
 -- ---- the classes are apart
 

@@ -6,7 +6,6 @@ use Rattle.squares.specs.DraughtsBoard.{Position}
 use Rattle.draughts_moves.specs.declared.checking.Illegal.{Illegal}
 use Rattle.draughts_moves.specs.Legal.{Legal, play}
 use Rattle.draughts_moves.proofs.Proved.{check-answer}
-use Rattle.game_history.specs.declared.faults.LineFault.{LineFault}
 use Rattle.draughts_draws.specs.declared.ends.DEnd.{DEnd}
 use Rattle.draughts_draws.specs.Ends.{end_of}
 
@@ -18,11 +17,5 @@ draughts_lines = record {
   EndsSo = λ start ms end. end_of start ms ≡ end;
 }
 
-abbrev pub GoesOn : Position → List DMove → ℕ → Type 0
-GoesOn = lines.GoesOn draughts_lines
-
 abbrev pub IsPlayed : Position → List DMove → ℕ → Type 0
 IsPlayed = lines.IsPlayed draughts_lines
-
-abbrev pub HasFault : Position → List DMove → LineFault Illegal → Type 0
-HasFault = lines.HasFault draughts_lines

@@ -1,5 +1,5 @@
-pub mod Counting
 pub mod Ends
 pub mod Faults
 pub mod Line
 pub mod Tails
+pub mod internal

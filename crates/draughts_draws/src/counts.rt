@@ -30,8 +30,8 @@ pub struct DrawCounts {
 
 impl DrawCounts {
     ghost use Rattle.game_history.specs.declared.faults.LineFault.TheVariants.{Memory};
-    ghost use Rattle.game_history.specs.Following.{GrowsBy, RefusesNext, StaysSo};
-    ghost use Rattle.draughts_draws.specs.Counting.{Follows, IsEndOf};
+    ghost use Rattle.game_history.specs.internal.Following.{GrowsBy, RefusesNext, StaysSo};
+    ghost use Rattle.draughts_draws.specs.internal.Counting.{Follows, IsEndOf};
     ghost use Rattle.draughts_draws.specs.Faults.{draughts_lines};
     ghost use Rattle.draughts_draws.specs.Tails.{end_by};
 

@@ -1,7 +1,8 @@
 //! Judging a whole game.
 ghost use Rattle.std.specs.Prelude.{◌≡◌, IfOk, IfErr, length};
 ghost use Rattle.draughts_draws.specs.Ends.{end_of};
-ghost use Rattle.draughts_draws.specs.Faults.{IsPlayed, HasFault};
+ghost use Rattle.draughts_draws.specs.Faults.{IsPlayed};
+ghost use Rattle.draughts_draws.specs.internal.Faults.{HasFault};
 
 use crate::counts::DrawCounts;
 use crate::ends::DEnd;

@@ -1,5 +1,5 @@
 //! Properties of the ends of games.
-ghost use Rattle.draughts_draws.specs.Tails.{TailsBegin, TailsGoOn, TailsTellEnds};
+ghost use Rattle.draughts_draws.specs.internal.Tails.{TailsBegin, TailsGoOn, TailsTellEnds};
 
 /// Lemma: the tail can be computed ply by ply, and gives the same end as the whole game.
 pub fn tails_tell_ends()

@@ -1,10 +1,12 @@
 -- The rules determine the answer of a move check, and whether there is a legal move.
 use Rattle.squares.specs.declared.draughts.moves.DMove.{DMove}
 use Rattle.squares.specs.DraughtsBoard.{Position}
-use Rattle.squares.specs.TheOnly.{TheOnly, IsTruthOf, only_truth}
-use Rattle.draughts_moves.specs.Check.{IsCheck, check_of}
+use Rattle.squares.specs.TheOnly.{TheOnly, IsTruthOf}
+use Rattle.squares.specs.internal.TheOnly.{only_truth}
+use Rattle.draughts_moves.specs.Check.{IsCheck}
+use Rattle.draughts_moves.specs.internal.Check.{check_of}
 use Rattle.draughts_moves.specs.Legal.{HasMove}
-use Rattle.draughts_moves.specs.Search.{has_move}
+use Rattle.draughts_moves.specs.internal.Search.{has_move}
 use Rattle.draughts_moves.proofs.CheckLemmas.{IsCheck-same, check_of-is}
 use Rattle.draughts_moves.proofs.MoveLemmas.{has_move-sound, has_move-complete}
 

@@ -8,14 +8,17 @@ use Rattle.std.proofs.lemmas.Bool.{cases_lt, cases_eq, and_parts, false≢true, 
 use Rattle.squares.specs.declared.draughts.moves.DMove.{DMove}
 use Rattle.squares.specs.DraughtsBoard.{Position}
 use Rattle.squares.specs.DraughtsSets.{Squares, same_squares}
-use Rattle.squares.specs.DraughtsMarks.{nat_eq_same, nat_eq_other, nat_eq-same}
-use Rattle.squares.specs.DraughtsSameSquares.{same_squares-same, same_squares-itself}
+use Rattle.squares.specs.internal.DraughtsMarks.{nat_eq_same, nat_eq_other, nat_eq-same}
+use Rattle.squares.specs.internal.DraughtsSameSquares.{same_squares-same, same_squares-itself}
 use Rattle.draughts_moves.specs.declared.checking.Illegal.TheVariants.{NoSuchMove, MustCapture, NotLongest}
-use Rattle.draughts_moves.specs.Capture.{without, Route, LegalCapture, HasCapture, IsMost}
+use Rattle.draughts_moves.specs.Capture.{without, Route, LegalCapture, HasCapture}
+use Rattle.draughts_moves.specs.internal.Capture.{IsMost}
 use Rattle.draughts_moves.specs.Legal.{IsQuiet, IsCapture, Legal}
-use Rattle.draughts_moves.specs.Search.{own_at, routes_of, is_step}
-use Rattle.draughts_moves.specs.Check.{Answer, IsCheck, is_capture, check_of}
-use Rattle.squares.specs.In.{In, list_any-found, list_any-finds}
+use Rattle.draughts_moves.specs.Search.{own_at, routes_of}
+use Rattle.draughts_moves.specs.internal.Search.{is_step}
+use Rattle.draughts_moves.specs.Check.{Answer, IsCheck}
+use Rattle.draughts_moves.specs.internal.Check.{is_capture, check_of}
+use Rattle.squares.specs.internal.In.{In, list_any-found, list_any-finds}
 use Rattle.draughts_moves.proofs.Basics.{option_cases}
 use Rattle.draughts_moves.proofs.RouteLemmas.{routes_of-sound, routes_of-complete}
 use Rattle.draughts_moves.proofs.MostLemmas.{Capture-len, Capture-by, Capture-own, Capture-legal, IsMost-most}

@@ -15,13 +15,15 @@ use Rattle.squares.specs.declared.draughts.piece.DPiece.{DPiece}
 use Rattle.squares.specs.declared.sides.Side.{Side}
 use Rattle.squares.specs.declared.sides.Side.TheVariants.{First, Second}
 use Rattle.squares.specs.DraughtsBoard.{Position}
-use Rattle.squares.specs.DraughtsMarks.{nat_eq_other}
+use Rattle.squares.specs.internal.DraughtsMarks.{nat_eq_other}
 use Rattle.squares.specs.DraughtsSets.{Squares}
-use Rattle.squares.specs.DraughtsGeometry.{OnBoard, step, line, ray, line-step, line-edge}
-use Rattle.squares.specs.DraughtsOnBoard.{ray-off, step-on_board}
+use Rattle.squares.specs.DraughtsGeometry.{step, line, ray}
+use Rattle.squares.specs.internal.DraughtsGeometry.{OnBoard, line-step, line-edge}
+use Rattle.squares.specs.internal.DraughtsOnBoard.{ray-off, step-on_board}
 use Rattle.draughts_moves.specs.Capture.{Cells}
 use Rattle.draughts_moves.specs.Legal.{is_forward}
-use Rattle.draughts_moves.specs.Search.{clear_front, steps_along, steps, next_in}
+use Rattle.draughts_moves.specs.Search.{clear_front, steps_along, steps}
+use Rattle.draughts_moves.specs.internal.Search.{next_in}
 use Rattle.draughts_moves.proofs.Basics.{option_cases, four, one_of, list_any-four}
 use Rattle.draughts_moves.proofs.LineLemmas.{is_in, distinct, ray-distinct, not_in_both, turned, first_on, line-split}
 use Rattle.draughts_moves.proofs.LineLemmas.{first-stands, front-clear}

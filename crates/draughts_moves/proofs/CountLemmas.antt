@@ -25,16 +25,21 @@ use Rattle.squares.specs.declared.draughts.piece.DPiece.{DPiece}
 use Rattle.squares.specs.declared.sides.Side.{Side}
 use Rattle.squares.specs.declared.sides.Side.TheVariants.{First, Second}
 use Rattle.squares.specs.Sides.{same_side}
-use Rattle.squares.specs.DraughtsBoard.{Position, is_of}
-use Rattle.squares.specs.DraughtsKept.{is_king}
-use Rattle.squares.specs.DraughtsGeometry.{OnBoard, step, ray, line, line-step}
-use Rattle.squares.specs.DraughtsMarks.{contains-squares_of, squares_of-no_zero, len-squares_of, nat_eq_other}
-use Rattle.squares.specs.DraughtsOnBoard.{AllOnBoard, ray-off, ray-on_board, step-on_board}
-use Rattle.squares.specs.DraughtsSets.{Squares, ascending, squares_of}
+use Rattle.squares.specs.DraughtsBoard.{Position}
+use Rattle.squares.specs.internal.DraughtsBoard.{is_of}
+use Rattle.squares.specs.internal.DraughtsKept.{is_king}
+use Rattle.squares.specs.DraughtsGeometry.{step, ray, line}
+use Rattle.squares.specs.internal.DraughtsGeometry.{OnBoard, line-step}
+use Rattle.squares.specs.internal.DraughtsMarks.{contains-squares_of, squares_of-no_zero, len-squares_of, nat_eq_other}
+use Rattle.squares.specs.internal.DraughtsOnBoard.{AllOnBoard, ray-off, ray-on_board, step-on_board}
+use Rattle.squares.specs.DraughtsSets.{Squares, ascending}
+use Rattle.squares.specs.internal.DraughtsSets.{squares_of}
 use Rattle.squares.proofs.Proved.{ray-moved}
-use Rattle.draughts_moves.specs.Counting.{count_squares, sum_squares, quiet_count, king_count, man_count}
-use Rattle.draughts_moves.specs.Listing.{quiet_in_order, quiet_list, step_to}
-use Rattle.draughts_moves.specs.Search.{own_at, is_step, next_in, steps}
+use Rattle.draughts_moves.specs.internal.Counting.{count_squares, sum_squares, quiet_count, king_count, man_count}
+use Rattle.draughts_moves.specs.Listing.{step_to}
+use Rattle.draughts_moves.specs.internal.Listing.{quiet_in_order, quiet_list}
+use Rattle.draughts_moves.specs.Search.{own_at, steps}
+use Rattle.draughts_moves.specs.internal.Search.{is_step, next_in}
 use Rattle.draughts_moves.proofs.Basics.{option_cases}
 use Rattle.draughts_moves.proofs.ClearLemmas.{AreEmpty, ahead, ahead-is, steps-first, steps-second}
 use Rattle.draughts_moves.proofs.IdleLemmas.{AreOf, own_in}

@@ -13,16 +13,16 @@ use Rattle.std.proofs.lemmas.List.{drop_more}
 use Rattle.squares.specs.declared.draughts.piece.DPiece.{DPiece}
 use Rattle.squares.specs.declared.draughts.moves.DMove.{DMove}
 use Rattle.squares.specs.DraughtsBoard.{Position}
-use Rattle.squares.specs.DraughtsMarks.{nat_eq_same, nat_eq_other, nat_eq-same, contains-insert_nat}
+use Rattle.squares.specs.internal.DraughtsMarks.{nat_eq_same, nat_eq_other, nat_eq-same, contains-insert_nat}
 use Rattle.squares.specs.DraughtsSets.{Squares, ascending}
-use Rattle.squares.specs.In.{In}
+use Rattle.squares.specs.internal.In.{In}
 use Rattle.squares.specs.OrderedLists.{put_all}
-use Rattle.squares.specs.PutLemmas.{put_all-append, put_all-sorted, map-flat_map}
+use Rattle.squares.specs.internal.PutLemmas.{put_all-append, put_all-sorted, map-flat_map}
 use Rattle.draughts_moves.specs.declared.mover.Mover.{Mover}
 use Rattle.draughts_moves.specs.Capture.{Cells, without}
 use Rattle.draughts_moves.specs.Search.{jumps, routes_of, greatest, own_at, greatest_at, most}
 use Rattle.draughts_moves.specs.Listing.{move_cmp, move_to, captures_at, moves_at, moves}
-use Rattle.draughts_moves.specs.Found.{kept, if_takes, ends_of, captured}
+use Rattle.draughts_moves.specs.internal.Found.{kept, if_takes, ends_of, captured}
 use Rattle.draughts_moves.proofs.Basics.{option_cases, In-item}
 use Rattle.draughts_moves.proofs.JumpLemmas.{jumps-sound}
 use Rattle.draughts_moves.proofs.MaxLemmas.{greatest_of, most-from, most-above, flat_map-filter}

@@ -13,18 +13,23 @@ use Rattle.squares.specs.declared.draughts.direction.Direction.TheVariants.{UpLe
 use Rattle.squares.specs.declared.draughts.piece.DPiece.{DPiece}
 use Rattle.squares.specs.declared.sides.Side.{Side}
 use Rattle.squares.specs.declared.sides.Side.TheVariants.{First, Second}
-use Rattle.squares.specs.Sides.{same_side, other, same_side-of}
-use Rattle.squares.specs.DraughtsBoard.{Board, Position, is_of}
-use Rattle.squares.specs.DraughtsKept.{is_king}
-use Rattle.squares.specs.DraughtsMarks.{nat_eq-same}
+use Rattle.squares.specs.Sides.{same_side, other}
+use Rattle.squares.specs.internal.Sides.{same_side-of}
+use Rattle.squares.specs.DraughtsBoard.{Board, Position}
+use Rattle.squares.specs.internal.DraughtsBoard.{is_of}
+use Rattle.squares.specs.internal.DraughtsKept.{is_king}
+use Rattle.squares.specs.internal.DraughtsMarks.{nat_eq-same}
 use Rattle.squares.specs.DraughtsSets.{Squares}
-use Rattle.squares.specs.DraughtsGeometry.{OnBoard, step, ray, line, line-step}
-use Rattle.squares.specs.DraughtsOnBoard.{ray-off, step-on_board}
+use Rattle.squares.specs.DraughtsGeometry.{step, ray, line}
+use Rattle.squares.specs.internal.DraughtsGeometry.{OnBoard, line-step}
+use Rattle.squares.specs.internal.DraughtsOnBoard.{ray-off, step-on_board}
 use Rattle.squares.proofs.Proved.{two_steps-apart}
 use Rattle.draughts_moves.specs.Capture.{Cells, is_enemy, without}
-use Rattle.draughts_moves.specs.Listing.{quiet_in_order}
-use Rattle.draughts_moves.specs.Search.{AreEnemies, AreExposed, faces, takes, line_jumps, own_at, greatest_at, next_in}
-use Rattle.draughts_moves.specs.Search.{next_before, is_beside, is_before, steps}
+use Rattle.draughts_moves.specs.internal.Listing.{quiet_in_order}
+use Rattle.draughts_moves.specs.Search.{line_jumps, own_at, greatest_at}
+use Rattle.draughts_moves.specs.internal.Search.{AreEnemies, AreExposed, faces, takes, next_in}
+use Rattle.draughts_moves.specs.Search.{steps}
+use Rattle.draughts_moves.specs.internal.Search.{next_before, is_beside, is_before}
 use Rattle.draughts_moves.proofs.Basics.{option_cases, one_of, one_of-none, one_of-false}
 use Rattle.draughts_moves.proofs.ClearLemmas.{AreEmpty, ahead-none, steps-first, steps-second}
 use Rattle.std.proofs.lemmas.List.Folds.{list_any-append}

@@ -9,7 +9,7 @@ use Rattle.squares.specs.DraughtsSets.{Squares}
 use Rattle.squares.specs.DraughtsGeometry.{ray}
 use Rattle.draughts_moves.specs.Capture.{Cells, is_enemy, AllClear, JumpAlong, Jump}
 use Rattle.draughts_moves.specs.Search.{clear_front, is_prey, king_jumps, man_jumps, line_jumps, jumps}
-use Rattle.squares.specs.In.{In, In-map, In-from_map}
+use Rattle.squares.specs.internal.In.{In, In-map, In-from_map}
 use Rattle.draughts_moves.proofs.Basics.{In-four, In-from_four}
 
 is_none-none : (o : Option DPiece) → is_none o ≡ true → o ≡ None

@@ -6,12 +6,13 @@ use Rattle.std.specs.List.Sorted.{IsStrictlySortedBy}
 use Rattle.std.specs.declared.cmp.Ordering.TheVariants.{Equal}
 use Rattle.squares.specs.declared.draughts.moves.DMove.{DMove}
 use Rattle.squares.specs.DraughtsBoard.{Position}
-use Rattle.squares.specs.In.{In, In-Contains, Contains-In}
+use Rattle.squares.specs.internal.In.{In, In-Contains, Contains-In}
 use Rattle.squares.specs.OrderedLists.{put_all}
-use Rattle.squares.specs.PutLemmas.{put_all-sorted, put_all-in, put_all-has}
-use Rattle.draughts_moves.specs.Capture.{IsMost}
+use Rattle.squares.specs.internal.PutLemmas.{put_all-sorted, put_all-in, put_all-has}
+use Rattle.draughts_moves.specs.internal.Capture.{IsMost}
 use Rattle.draughts_moves.specs.Legal.{Legal}
-use Rattle.draughts_moves.specs.Listing.{move_cmp, moves, quiet_list}
+use Rattle.draughts_moves.specs.Listing.{move_cmp, moves}
+use Rattle.draughts_moves.specs.internal.Listing.{quiet_list}
 use Rattle.draughts_moves.specs.Search.{most}
 use Rattle.draughts_moves.proofs.ListLemmas.{move_cmp-same, moves-sound, moves-complete, quiet-sound, quiet-listed}
 use Rattle.draughts_moves.proofs.FoundLemmas.{sorted-none}

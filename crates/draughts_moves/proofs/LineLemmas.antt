@@ -10,14 +10,16 @@ use Rattle.std.proofs.lemmas.List.Folds.{list_any-append}
 use Rattle.squares.specs.declared.draughts.direction.Direction.{Direction}
 use Rattle.squares.specs.declared.draughts.direction.Direction.TheVariants.{UpLeft, UpRight, DownLeft, DownRight}
 use Rattle.squares.specs.declared.draughts.piece.DPiece.{DPiece}
-use Rattle.squares.specs.DraughtsMarks.{nat_eq_same, nat_eq_other, nat_eq-same}
+use Rattle.squares.specs.internal.DraughtsMarks.{nat_eq_same, nat_eq_other, nat_eq-same}
 use Rattle.squares.specs.DraughtsSets.{Squares}
-use Rattle.squares.specs.DraughtsGeometry.{OnBoard, neighbor, step, line, ray, line-step, line-edge}
-use Rattle.squares.specs.DraughtsOnBoard.{ray-off}
-use Rattle.squares.specs.In.{list_any-finds}
+use Rattle.squares.specs.DraughtsGeometry.{neighbor, step, line, ray}
+use Rattle.squares.specs.internal.DraughtsGeometry.{OnBoard, line-step, line-edge}
+use Rattle.squares.specs.internal.DraughtsOnBoard.{ray-off}
+use Rattle.squares.specs.internal.In.{list_any-finds}
 use Rattle.squares.proofs.Proved.{ends_within, ray-ends, ends-next, line-ends}
 use Rattle.draughts_moves.specs.Capture.{Cells, AllClear}
-use Rattle.draughts_moves.specs.Search.{clear_front, is_prey, takes, king_jumps, man_jumps, line_jumps, jumps, greatest}
+use Rattle.draughts_moves.specs.Search.{clear_front, is_prey, king_jumps, man_jumps, line_jumps, jumps, greatest}
+use Rattle.draughts_moves.specs.internal.Search.{takes}
 use Rattle.draughts_moves.proofs.Basics.{option_cases, one_of, list_any-four}
 use Rattle.draughts_moves.proofs.Prey.{In-board}
 use Rattle.draughts_moves.proofs.RouteLemmas.{greatest-jumps}

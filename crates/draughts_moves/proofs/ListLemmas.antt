@@ -17,17 +17,19 @@ use Rattle.squares.specs.declared.draughts.piece.DPiece.{DPiece}
 use Rattle.squares.specs.declared.draughts.moves.DMove.{DMove}
 use Rattle.squares.specs.DraughtsBoard.{Position}
 use Rattle.squares.specs.DraughtsSets.{Squares, ascending, same_squares}
-use Rattle.squares.specs.DraughtsSameSquares.{same_squares-same}
-use Rattle.squares.specs.DraughtsMarks.{contains-insert_nat, nat_eq_same, nat_eq_other, nat_eq-same}
-use Rattle.squares.specs.DraughtsGeometry.{OnBoard}
-use Rattle.squares.specs.DraughtsOnBoard.{AllOnBoard, ray-on_board}
-use Rattle.squares.specs.In.{In, In-map, In-from_map, In-flat_map, In-from_flat_map}
-use Rattle.squares.specs.PutLemmas.{less_all, append-sorted}
-use Rattle.draughts_moves.specs.Capture.{Cells, Route, LegalCapture, HasCapture, IsMost, without}
+use Rattle.squares.specs.internal.DraughtsSameSquares.{same_squares-same}
+use Rattle.squares.specs.internal.DraughtsMarks.{contains-insert_nat, nat_eq_same, nat_eq_other, nat_eq-same}
+use Rattle.squares.specs.internal.DraughtsGeometry.{OnBoard}
+use Rattle.squares.specs.internal.DraughtsOnBoard.{AllOnBoard, ray-on_board}
+use Rattle.squares.specs.internal.In.{In, In-map, In-from_map, In-flat_map, In-from_flat_map}
+use Rattle.squares.specs.internal.PutLemmas.{less_all, append-sorted}
+use Rattle.draughts_moves.specs.Capture.{Cells, Route, LegalCapture, HasCapture, without}
+use Rattle.draughts_moves.specs.internal.Capture.{IsMost}
 use Rattle.draughts_moves.specs.Legal.{IsQuiet, Legal}
-use Rattle.draughts_moves.specs.Search.{own_at, routes_of, steps, is_step}
+use Rattle.draughts_moves.specs.Search.{own_at, routes_of, steps}
+use Rattle.draughts_moves.specs.internal.Search.{is_step}
 use Rattle.draughts_moves.specs.Listing.{key_of, move_cmp, move_to, step_to, captures_at, quiet_at, moves_at, moves}
-use Rattle.draughts_moves.specs.Listing.{quiet_in_order, quiet_list}
+use Rattle.draughts_moves.specs.internal.Listing.{quiet_in_order, quiet_list}
 use Rattle.draughts_moves.proofs.Basics.{option_cases, from_filter, in_filter}
 use Rattle.draughts_moves.proofs.MaxLemmas.{flat_map-filter}
 use Rattle.draughts_moves.proofs.MostLemmas.{Jump-from_on, Capture-by, Capture-own, Capture-Reaches, Capture-legal}

@@ -7,7 +7,7 @@ use Rattle.std.specs.FinSet as set
 use Rattle.std.proofs.lemmas.Bool.{cases_lt, cases_Bool}
 use Rattle.squares.specs.DraughtsBoard.{Position}
 use Rattle.squares.specs.DraughtsSets.{Squares, ascending}
-use Rattle.squares.specs.In.{In}
+use Rattle.squares.specs.internal.In.{In}
 use Rattle.draughts_moves.specs.Search.{greatest_at, most}
 
 module _ {A : Type 0} (f : A → ℕ) where

@@ -9,11 +9,13 @@ use Rattle.std.proofs.lemmas.Option.{cond_some, option_and_then_some}
 use Rattle.squares.specs.declared.draughts.piece.DPiece.{DPiece}
 use Rattle.squares.specs.DraughtsBoard.{Position}
 use Rattle.squares.specs.DraughtsSets.{Squares}
-use Rattle.squares.specs.DraughtsGeometry.{OnBoard}
-use Rattle.squares.specs.DraughtsOnBoard.{ray-off}
-use Rattle.draughts_moves.specs.Capture.{Cells, Jump, Route, Capture, Reaches, LegalCapture, HasCapture, IsMost}
+use Rattle.squares.specs.internal.DraughtsGeometry.{OnBoard}
+use Rattle.squares.specs.internal.DraughtsOnBoard.{ray-off}
+use Rattle.draughts_moves.specs.Capture.{Cells, Jump, Route, Capture, LegalCapture, HasCapture}
+use Rattle.draughts_moves.specs.internal.Capture.{Reaches, IsMost}
 use Rattle.draughts_moves.specs.Capture.{without}
-use Rattle.squares.specs.Sides.{same_side, same_side-same, same_side-of}
+use Rattle.squares.specs.Sides.{same_side}
+use Rattle.squares.specs.internal.Sides.{same_side-same, same_side-of}
 use Rattle.draughts_moves.specs.Search.{greatest, own_at, greatest_at, most}
 use Rattle.draughts_moves.proofs.Basics.{option_cases}
 use Rattle.draughts_moves.proofs.MaxLemmas.{most-above, most-reached}

@@ -12,14 +12,15 @@ use Rattle.std.proofs.lemmas.Bool.{cases_lt, or_cases, or_right, false≢true, l
 use Rattle.squares.specs.declared.draughts.piece.DPiece.{DPiece}
 use Rattle.squares.specs.declared.draughts.moves.DMove.{DMove}
 use Rattle.squares.specs.DraughtsBoard.{Position}
-use Rattle.squares.specs.DraughtsGeometry.{OnBoard}
-use Rattle.squares.specs.DraughtsMarks.{nat_eq_same}
+use Rattle.squares.specs.internal.DraughtsGeometry.{OnBoard}
+use Rattle.squares.specs.internal.DraughtsMarks.{nat_eq_same}
 use Rattle.squares.specs.DraughtsSets.{Squares}
 use Rattle.squares.specs.Sides.{other}
-use Rattle.squares.specs.In.{In, list_any-found, list_any-finds}
+use Rattle.squares.specs.internal.In.{In, list_any-found, list_any-finds}
 use Rattle.draughts_moves.specs.Capture.{without, LegalCapture, FirstJump, HasCapture}
 use Rattle.draughts_moves.specs.Legal.{QuietMove, IsCapture, Legal, HasMove, play}
-use Rattle.draughts_moves.specs.Search.{own_at, most, steps, jumps, can_move, has_move}
+use Rattle.draughts_moves.specs.Search.{own_at, most, steps, jumps}
+use Rattle.draughts_moves.specs.internal.Search.{can_move, has_move}
 use Rattle.draughts_moves.proofs.Basics.{option_cases}
 use Rattle.draughts_moves.proofs.Prey.{In-board}
 use Rattle.draughts_moves.proofs.CheckLemmas.{LegalCapture-IsCapture}

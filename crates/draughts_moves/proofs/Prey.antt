@@ -8,12 +8,12 @@ use Rattle.std.proofs.lemmas.List.Sums.{sum_by-cons, count_by-le-length}
 use Rattle.std.proofs.lemmas.Bool.{cases_eq, cases_Bool}
 use Rattle.squares.specs.declared.draughts.piece.DPiece.{DPiece}
 use Rattle.squares.specs.DraughtsSets.{Squares}
-use Rattle.squares.specs.DraughtsMarks.{contains-insert_nat, nat_eq_same}
-use Rattle.squares.specs.DraughtsGeometry.{OnBoard}
-use Rattle.squares.specs.DraughtsOnBoard.{AllOnBoard, ray-on_board}
+use Rattle.squares.specs.internal.DraughtsMarks.{contains-insert_nat, nat_eq_same}
+use Rattle.squares.specs.internal.DraughtsGeometry.{OnBoard}
+use Rattle.squares.specs.internal.DraughtsOnBoard.{AllOnBoard, ray-on_board}
 use Rattle.draughts_moves.specs.Capture.{Cells, is_enemy, Jump}
 use Rattle.draughts_moves.specs.Search.{is_prey, prey_left}
-use Rattle.squares.specs.In.{In}
+use Rattle.squares.specs.internal.In.{In}
 
 -- a test that passes less counts less
 module _ (p q : ℕ → Bool) (less : (n : ℕ) → q n ≡ true → p n ≡ true) where

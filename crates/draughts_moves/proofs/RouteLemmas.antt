@@ -5,10 +5,11 @@ use Rattle.std.specs.FinSet as set
 use Rattle.std.specs.Cmp.{nat_cmp_total}
 use Rattle.squares.specs.declared.draughts.piece.DPiece.{DPiece}
 use Rattle.squares.specs.DraughtsSets.{Squares}
-use Rattle.draughts_moves.specs.Capture.{Cells, Route, Reaches}
-use Rattle.draughts_moves.specs.Laws.{GrownRoute}
+use Rattle.draughts_moves.specs.Capture.{Cells, Route}
+use Rattle.draughts_moves.specs.internal.Capture.{Reaches}
+use Rattle.draughts_moves.specs.internal.Laws.{GrownRoute}
 use Rattle.draughts_moves.specs.Search.{jumps, routes_of, longest, prey_left, greatest}
-use Rattle.squares.specs.In.{In, In-flat_map, In-from_flat_map}
+use Rattle.squares.specs.internal.In.{In, In-flat_map, In-from_flat_map}
 use Rattle.draughts_moves.proofs.JumpLemmas.{jumps-sound, jumps-complete}
 use Rattle.draughts_moves.proofs.MaxLemmas.{most-above, most-reached, most-same, most-below}
 use Rattle.draughts_moves.proofs.Prey.{prey_left-falls, prey_left-fits}

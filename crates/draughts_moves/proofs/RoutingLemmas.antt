@@ -16,15 +16,16 @@ use Rattle.std.proofs.lemmas.List.{take_all, get_or-map, length-map, append-nil,
 use Rattle.squares.specs.declared.draughts.piece.DPiece.{DPiece}
 use Rattle.squares.specs.declared.draughts.moves.DMove.{DMove}
 use Rattle.squares.specs.DraughtsBoard.{Position}
-use Rattle.squares.specs.DraughtsMarks.{nat_eq_same, nat_eq-same}
+use Rattle.squares.specs.internal.DraughtsMarks.{nat_eq_same, nat_eq-same}
 use Rattle.squares.specs.DraughtsSets.{Squares, same_squares}
-use Rattle.squares.specs.DraughtsSameSquares.{same_squares-same, same_squares-itself}
-use Rattle.squares.specs.In.{In, In-map, In-from_map, In-flat_map, In-from_flat_map, In-Contains, Contains-In}
+use Rattle.squares.specs.internal.DraughtsSameSquares.{same_squares-same, same_squares-itself}
+use Rattle.squares.specs.internal.In.{In, In-map, In-from_map, In-flat_map, In-from_flat_map, In-Contains, Contains-In}
 use Rattle.squares.specs.OrderedLists.{put, put_all}
-use Rattle.squares.specs.PutLemmas.{put-at_end, map-flat_map, put_all-sorted, put_all-in, put_all-has}
+use Rattle.squares.specs.internal.PutLemmas.{put-at_end, map-flat_map, put_all-sorted, put_all-in, put_all-has}
 use Rattle.draughts_moves.specs.Capture.{Cells, Route, Capture, without}
 use Rattle.draughts_moves.specs.Search.{own_at, jumps}
-use Rattle.draughts_moves.specs.Routes.{route_cmp, lists_in, landings_of}
+use Rattle.draughts_moves.specs.Routes.{route_cmp, landings_of}
+use Rattle.draughts_moves.specs.internal.Routes.{lists_in}
 use Rattle.draughts_moves.proofs.JumpLemmas.{jumps-sound, jumps-complete}
 use Rattle.draughts_moves.proofs.MostLemmas.{Capture-by, Capture-route, Capture-len}
 

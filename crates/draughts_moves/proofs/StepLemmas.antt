@@ -10,13 +10,15 @@ use Rattle.std.proofs.lemmas.List.{take-append-drop}
 use Rattle.squares.specs.declared.draughts.direction.Direction.{Direction}
 use Rattle.squares.specs.declared.draughts.piece.DPiece.{DPiece}
 use Rattle.squares.specs.DraughtsBoard.{Position}
-use Rattle.squares.specs.DraughtsGeometry.{OnBoard, step, line, ray}
-use Rattle.squares.specs.DraughtsMarks.{nat_eq_same, nat_eq-same}
-use Rattle.squares.specs.DraughtsOnBoard.{ray-off}
+use Rattle.squares.specs.DraughtsGeometry.{step, line, ray}
+use Rattle.squares.specs.internal.DraughtsGeometry.{OnBoard}
+use Rattle.squares.specs.internal.DraughtsMarks.{nat_eq_same, nat_eq-same}
+use Rattle.squares.specs.internal.DraughtsOnBoard.{ray-off}
 use Rattle.draughts_moves.specs.Capture.{Cells, AllClear}
 use Rattle.draughts_moves.specs.Legal.{is_forward, QuietMove}
-use Rattle.draughts_moves.specs.Search.{clear_front, reach, steps_along, steps, own_at, is_step}
-use Rattle.squares.specs.In.{In, list_any-found, list_any-finds}
+use Rattle.draughts_moves.specs.Search.{clear_front, reach, steps_along, steps, own_at}
+use Rattle.draughts_moves.specs.internal.Search.{is_step}
+use Rattle.squares.specs.internal.In.{In, list_any-found, list_any-finds}
 use Rattle.draughts_moves.proofs.Basics.{option_cases, In-four, In-from_four}
 use Rattle.draughts_moves.proofs.JumpLemmas.{clear_front-sound}
 use Rattle.draughts_moves.proofs.MostLemmas.{own_at-own, own_at-is, not_empty}

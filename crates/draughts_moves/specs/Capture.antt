@@ -1,6 +1,6 @@
 -- Captures under the FMJD rules of international draughts: jumps, capture routes and legal captures.
 use Rattle.std.specs.Prelude.{◌≡◌, ◌≤◌, ◌<◌, ℕ, Bool, true, false, not, ◌==◌, if◌then◌else◌, Option, Some, None, List}
-use Rattle.std.specs.Prelude.{[], ◌∷◌, ◌++◌, length}
+use Rattle.std.specs.Prelude.{[], ◌∷◌, ◌++◌}
 use Rattle.std.specs.FinSet as set
 use Rattle.std.specs.FinMap as map
 use Rattle.squares.specs.declared.draughts.direction.Direction.{Direction}
@@ -67,15 +67,6 @@ pub record LegalCapture (p : Position) (from to : ℕ) (all : Squares) : Type 0 
   pub capture : Capture p from landings all to
   pub takes : 0 < set.len all
   pub most : (x y : ℕ) (ls : List ℕ) (t : Squares) → Capture p x ls t y → set.len t ≤ set.len all
-
--- No capture takes more than n pieces, and one takes n unless n is 0.
-pub record IsMost (p : Position) (n : ℕ) : Type 0 where
-  pub bounds : (x y : ℕ) (ls : List ℕ) (t : Squares) → Capture p x ls t y → set.len t ≤ n
-  pub reached : 0 < n → (x : ℕ) × (y : ℕ) × (ls : List ℕ) × (t : Squares) × Capture p x ls t y × (set.len t ≡ n)
-
--- With `taken` captured so far, n jumps from a square end on `to` and capture `all`.
-abbrev pub Reaches : Cells → DPiece → ℕ → Squares → ℕ → Squares → ℕ → Type 0
-Reaches b p n taken from all to = (landings : List ℕ) × (length landings ≡ n) × Route b p taken from landings all to
 
 -- A first jump of a piece of the side to move.
 pub record FirstJump (p : Position) (from over to : ℕ) : Type 0 where

@@ -1,10 +1,7 @@
 pub mod Capture
 pub mod Check
-pub mod Counting
-pub mod Found
-pub mod Laws
 pub mod Legal
 pub mod Listing
-pub mod Refusal
 pub mod Routes
 pub mod Search
+pub mod internal

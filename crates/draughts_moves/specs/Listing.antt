@@ -1,5 +1,5 @@
 -- The computed legal moves, ordered by start, end and the ascending list of captured squares.
-use Rattle.std.specs.Prelude.{ℕ, ◌==◌, if◌then◌else◌, List, [], ◌∷◌, map, filter}
+use Rattle.std.specs.Prelude.{ℕ, ◌==◌, if◌then◌else◌, List, [], ◌∷◌, map}
 use Rattle.std.specs.Ordering.{nat_cmp}
 use Rattle.std.specs.List.{flat_map, range_with_len}
 use Rattle.std.specs.Option.{option_map_or}
@@ -11,7 +11,7 @@ use Rattle.squares.specs.DraughtsBoard.{Position}
 use Rattle.squares.specs.DraughtsSets.{Squares, ascending}
 use Rattle.squares.specs.declared.draughts.moves.DMove.{DMove}
 use Rattle.draughts_moves.specs.Capture.{without}
-use Rattle.draughts_moves.specs.Search.{own_at, routes_of, steps, is_step}
+use Rattle.draughts_moves.specs.Search.{own_at, routes_of, steps}
 
 -- The sort key of a move.
 abbrev pub key_of : DMove → List ℕ
@@ -36,14 +36,6 @@ step_to x y = record { from = x; to = y; taken = set.empty }
 -- The quiet moves of the piece on x.
 unfoldable pub quiet_at : Position → ℕ → List DMove
 quiet_at p x = option_map_or (λ q. map (step_to x) (steps (finite_map.get p.board) q x)) (own_at p x) []
-
--- The quiet moves of the piece on x, ordered by target square.
-unfoldable pub quiet_in_order : Position → ℕ → List DMove
-quiet_in_order p x = map (step_to x) (filter (is_step p x) (range_with_len 1 50))
-
--- The quiet moves of all pieces.
-unfoldable pub quiet_list : Position → List DMove
-quiet_list p = flat_map (quiet_in_order p) (range_with_len 1 50)
 
 -- The moves of the piece on x, if the longest capture takes n pieces.
 unfoldable pub moves_at : Position → ℕ → ℕ → List DMove

@@ -1,7 +1,6 @@
 -- The computed capture routes, in lexicographic order of their landings.
-use Rattle.std.specs.Prelude.{ℕ, ◌&&◌, ◌==◌, if◌then◌else◌, List, [], ◌∷◌, map, Vec}
+use Rattle.std.specs.Prelude.{ℕ, ◌&&◌, ◌==◌, if◌then◌else◌, List, [], ◌∷◌, map}
 use Rattle.std.proofs.Common.{zero, suc}
-use Rattle.std.specs.declared.alloc.Global.{Global}
 use Rattle.std.specs.declared.cmp.Ordering.{Ordering}
 use Rattle.std.specs.Cmp.Lexicographic.{slice_cmp}
 use Rattle.std.specs.List.{flat_map}
@@ -15,10 +14,6 @@ use Rattle.draughts_moves.specs.Search.{jumps}
 -- The lexicographic order of routes.
 abbrev pub route_cmp : List ℕ → List ℕ → Ordering
 route_cmp a b = slice_cmp nat_cmp a b
-
--- The lists in a list of vectors.
-abbrev pub lists_in : List (Vec ℕ Global) → List (List ℕ)
-lists_in vectors = map (λ v. v.items) vectors
 
 -- The landings of each route of n jumps that captures `all` and ends on `to`.
 unfoldable pub landings_of : Cells → DPiece → Squares → ℕ → ℕ → Squares → ℕ → List (List ℕ)

@@ -4,8 +4,9 @@ ghost use Rattle.std.specs.FinSet as set;
 ghost use Rattle.squares.specs.declared.draughts.moves.DMove.{DMove};
 ghost use Rattle.draughts_moves.specs.Capture.{HasCapture};
 ghost use Rattle.draughts_moves.specs.Legal.{IsQuiet, IsCapture, IsShortCapture, Legal, HasMove};
-ghost use Rattle.draughts_moves.specs.Search.{is_step, can_move, has_move};
-ghost use Rattle.draughts_moves.specs.Check.{IsCheck, check_of};
+ghost use Rattle.draughts_moves.specs.internal.Search.{is_step, can_move, has_move};
+ghost use Rattle.draughts_moves.specs.Check.{IsCheck};
+ghost use Rattle.draughts_moves.specs.internal.Check.{check_of};
 
 use crate::first_jumps::can_jump;
 use crate::most::{most, own_at};
@@ -28,7 +29,7 @@ pub enum Illegal {
 
 impl fmt::Display for Illegal {
     ghost use Rattle.std.specs.Prelude.{Some};
-    ghost use Rattle.draughts_moves.specs.Refusal.{rule_text};
+    ghost use Rattle.draughts_moves.specs.internal.Refusal.{rule_text};
 
     ghost output = { λ illegal. Some (rule_text illegal) };
 
@@ -38,7 +39,7 @@ impl fmt::Display for Illegal {
 }
 
 impl Illegal {
-    ghost use Rattle.draughts_moves.specs.Refusal.{rule_text};
+    ghost use Rattle.draughts_moves.specs.internal.Refusal.{rule_text};
 
     fn rule(self) -> &'static str
         ensures { result.now ≡ rule_text self }
@@ -114,7 +115,7 @@ fn check_capture(position: &DPos, played: &DMove) -> Result<(), Illegal>
 }
 
 // Whether the piece on `from` can make a quiet move to `to`.
-#[tactic(auto, unfolding(crate::specs::Search::is_step))]
+#[tactic(auto, unfolding(crate::specs::internal::Search::is_step))]
 fn is_step(position: &DPos, from: Dsq, to: Dsq) -> bool
     ensures { result ≡ is_step position.now from to }
 {
@@ -154,7 +155,7 @@ pub fn has_move(position: &DPos) -> bool
 }
 
 // Whether the piece on a square belongs to the side to move and has a quiet move or a jump.
-#[tactic(auto, unfolding(crate::specs::Search::can_move))]
+#[tactic(auto, unfolding(crate::specs::internal::Search::can_move))]
 fn can_move(position: &DPos, square: Dsq) -> bool
     ensures { result ≡ can_move position.now square }
 {

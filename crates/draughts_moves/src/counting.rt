@@ -1,10 +1,10 @@
 //! The number of legal moves.
 ghost use Rattle.std.specs.Prelude.{◌≡◌, ◌≤◌, ◌&&◌, length, IfOk};
 ghost use Rattle.std.specs.FinSet as set;
-ghost use Rattle.draughts_moves.specs.Counting.{IsCountOfLegal, count_squares, sum_squares, quiet_count};
-ghost use Rattle.draughts_moves.specs.Counting.{king_count, man_count};
-ghost use Rattle.draughts_moves.specs.Listing.{quiet_list};
-ghost use Rattle.draughts_moves.specs.Search.{next_in};
+ghost use Rattle.draughts_moves.specs.internal.Counting.{IsCountOfLegal, count_squares, sum_squares, quiet_count};
+ghost use Rattle.draughts_moves.specs.internal.Counting.{king_count, man_count};
+ghost use Rattle.draughts_moves.specs.internal.Listing.{quiet_list};
+ghost use Rattle.draughts_moves.specs.internal.Search.{next_in};
 
 use crate::most::own_at;
 use crate::move_visitor::longest_captures;

@@ -4,7 +4,8 @@ ghost use Rattle.std.specs.FinMap as map;
 ghost use Rattle.std.specs.FinSet as set;
 ghost use Rattle.squares.specs.declared.draughts.direction.Direction.TheVariants as direction;
 ghost use Rattle.squares.specs.declared.draughts.piece.DPiece.{DPiece};
-ghost use Rattle.draughts_moves.specs.Search.{own_at, greatest_at, AreExposed, faces};
+ghost use Rattle.draughts_moves.specs.Search.{own_at, greatest_at};
+ghost use Rattle.draughts_moves.specs.internal.Search.{AreExposed, faces};
 
 use crate::neighbors::exposed_squares;
 use squares::{DPos, DSet, Direction, Dsq, Side};

@@ -4,7 +4,8 @@ ghost use Rattle.draughts_moves.specs.Capture.{without, Cells};
 ghost use Rattle.squares.specs.declared.draughts.piece.DPiece.{DPiece};
 ghost use Rattle.squares.specs.DraughtsSets.{Squares};
 ghost use Rattle.squares.specs.DraughtsGeometry.{ray};
-ghost use Rattle.draughts_moves.specs.Search.{takes, line_jumps, king_jumps, man_jumps, jumps, Meets};
+ghost use Rattle.draughts_moves.specs.Search.{line_jumps, king_jumps, man_jumps, jumps};
+ghost use Rattle.draughts_moves.specs.internal.Search.{takes, Meets};
 
 use crate::jumps::{Met, look};
 use crate::mover::Mover;

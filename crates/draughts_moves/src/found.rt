@@ -4,7 +4,7 @@ ghost use Rattle.std.specs.FinSet as set;
 ghost use Rattle.std.specs.List.Sorted.{IsStrictlySortedBy};
 ghost use Rattle.squares.specs.OrderedLists.{put_all};
 ghost use Rattle.draughts_moves.specs.Listing.{move_cmp};
-ghost use Rattle.draughts_moves.specs.Found.{kept, if_takes};
+ghost use Rattle.draughts_moves.specs.internal.Found.{kept, if_takes};
 
 use crate::ordering::put_move;
 use squares::DMove;

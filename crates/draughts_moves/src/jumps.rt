@@ -6,7 +6,7 @@ ghost use Rattle.squares.specs.DraughtsSets.{Squares};
 ghost use Rattle.squares.specs.declared.draughts.piece.DPiece.{DPiece};
 ghost use Rattle.squares.specs.DraughtsGeometry.{ray};
 ghost use Rattle.draughts_moves.specs.Search.{clear_front, king_jumps, man_jumps, line_jumps, jumps};
-ghost use Rattle.draughts_moves.specs.Search.{AreStanding, Meets};
+ghost use Rattle.draughts_moves.specs.internal.Search.{AreStanding, Meets};
 
 use crate::mover::Mover;
 use squares::{DPos, DSet, Direction, Dsq, Side};

@@ -1,5 +1,6 @@
 //! Properties of the rules as a whole.
-ghost use Rattle.draughts_moves.specs.Laws.{CheckIs, HasMoveIs, CapturesBeginWithJumps, TurnPasses, RoutesGrow};
+ghost use Rattle.draughts_moves.specs.internal.Laws.{CheckIs, HasMoveIs, CapturesBeginWithJumps, TurnPasses};
+ghost use Rattle.draughts_moves.specs.internal.Laws.{RoutesGrow};
 
 /// Lemma: `check_of` accepts exactly the legal moves and gives every other move the refusal that the rules define.
 pub fn check_is()

@@ -5,7 +5,8 @@ ghost use Rattle.std.specs.List.Sorted.{IsStrictlySortedBy};
 ghost use Rattle.squares.specs.declared.draughts.moves.DMove.{DMove};
 ghost use Rattle.squares.specs.DraughtsSets.{ascending};
 ghost use Rattle.draughts_moves.specs.Legal.{Legal};
-ghost use Rattle.draughts_moves.specs.Listing.{move_cmp, step_to, quiet_in_order, quiet_list};
+ghost use Rattle.draughts_moves.specs.Listing.{move_cmp, step_to};
+ghost use Rattle.draughts_moves.specs.internal.Listing.{quiet_in_order, quiet_list};
 
 use crate::most::own_at;
 use crate::move_visitor::longest_captures;

@@ -1,7 +1,7 @@
 //! The number of pieces that the longest capture takes.
 ghost use Rattle.std.specs.Prelude.{◌≡◌, ◌≤◌, ℕ, false};
 ghost use Rattle.std.specs.FinSet as set;
-ghost use Rattle.draughts_moves.specs.Capture.{IsMost};
+ghost use Rattle.draughts_moves.specs.internal.Capture.{IsMost};
 ghost use Rattle.draughts_moves.specs.Search.{own_at, greatest_at};
 
 use crate::exposure::jumping_kings;

@@ -6,7 +6,7 @@ ghost use Rattle.squares.specs.OrderedLists.{put_all};
 ghost use Rattle.draughts_moves.specs.Capture.{without};
 ghost use Rattle.draughts_moves.specs.Search.{greatest, greatest_at, most};
 ghost use Rattle.draughts_moves.specs.Listing.{move_cmp, moves};
-ghost use Rattle.draughts_moves.specs.Found.{kept, ends_of, captured};
+ghost use Rattle.draughts_moves.specs.internal.Found.{kept, ends_of, captured};
 
 use crate::first_jumps::can_jump;
 use crate::found::LongestCaptures;

@@ -1,7 +1,7 @@
 //! Squares next to a piece that can be jumped over, and squares in front of an empty one.
 ghost use Rattle.std.specs.Prelude.{◌≡◌, ◌&&◌, ℕ};
 ghost use Rattle.std.specs.FinSet as set;
-ghost use Rattle.draughts_moves.specs.Search.{is_before, is_beside, next_before, next_in};
+ghost use Rattle.draughts_moves.specs.internal.Search.{is_before, is_beside, next_before, next_in};
 
 use squares::{DSet, Direction, Side};
 

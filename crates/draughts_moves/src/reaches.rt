@@ -1,6 +1,7 @@
 //! Whether a piece can complete a given capture.
 ghost use Rattle.std.specs.Prelude.{◌↔◌, IsTrue};
-ghost use Rattle.draughts_moves.specs.Capture.{without, Reaches};
+ghost use Rattle.draughts_moves.specs.Capture.{without};
+ghost use Rattle.draughts_moves.specs.internal.Capture.{Reaches};
 
 use crate::jumps::jumps_from;
 use crate::mover::Mover;

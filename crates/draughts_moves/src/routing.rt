@@ -5,7 +5,8 @@ ghost use Rattle.std.specs.List.Sorted.{IsStrictlySortedBy};
 ghost use Rattle.squares.specs.DraughtsSets.{same_squares};
 ghost use Rattle.squares.specs.OrderedLists.{put, put_all};
 ghost use Rattle.draughts_moves.specs.Capture.{without, Capture};
-ghost use Rattle.draughts_moves.specs.Routes.{route_cmp, lists_in, landings_of};
+ghost use Rattle.draughts_moves.specs.Routes.{route_cmp, landings_of};
+ghost use Rattle.draughts_moves.specs.internal.Routes.{lists_in};
 
 use crate::jumps::jumps_from;
 use crate::most::own_at;

@@ -10,7 +10,8 @@ use Rattle.std.proofs.Math.ListN.{get_or-append}
 use Rattle.game_history.specs.declared.faults.LineFault.{LineFault}
 use Rattle.game_history.specs.declared.faults.LineFault.TheVariants.{Memory, Illegal, AfterEnd}
 use Rattle.game_history.specs.Line.{last_position}
-use Rattle.game_history.specs.Faults.{LineRules, GoesOn, IsPlayed, HasFault}
+use Rattle.game_history.specs.Faults.{LineRules, GoesOn, IsPlayed}
+use Rattle.game_history.specs.internal.Faults.{HasFault}
 
 -- ---- moves of a list that is longer
 

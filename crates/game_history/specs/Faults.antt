@@ -1,7 +1,5 @@
 -- Legal sequences of moves, and the faults of the others.
-use Rattle.std.specs.Prelude.{◌≡◌, ◌<◌, ◌+◌, ℕ, List, length, take, slice_get, Option, Some, None}
-use Rattle.game_history.specs.declared.faults.LineFault.{LineFault}
-use Rattle.game_history.specs.declared.faults.LineFault.TheVariants.{Memory, Illegal, AfterEnd}
+use Rattle.std.specs.Prelude.{◌≡◌, ◌<◌, ℕ, List, take, slice_get, Option, Some, None}
 use Rattle.game_history.specs.Line.{position_after}
 
 -- The rules of a game with positions P, moves M, ends E and refusals C.
@@ -22,13 +20,3 @@ module _ {P M E C : Type 0} (rules : LineRules P M E C) where
   -- The first n plies follow the rules: each move is legal in its position, and the game did not end before it.
   abbrev pub IsPlayed : P → List M → ℕ → Type 0
   IsPlayed start ms n = (k : ℕ) → k < n → GoesOn start ms k
-
-  -- The fault of the first ply that breaks the rules; plies count from 1. It is `AfterEnd` if the game had ended before
-  -- the ply, whatever the move is, otherwise `Illegal`. Nothing is said about when memory runs out.
-  abbrev pub HasFault : P → List M → LineFault C → Type 0
-  HasFault start ms Memory = Unit {0}
-  HasFault start ms (AfterEnd ply) = (k : ℕ) × (end : E) × (ply ≡ k + 1) × (k < length ms) × IsPlayed start ms k
-      × rules.EndsSo start (take k ms) (Some end)
-  HasFault start ms (Illegal ply cause) =
-      (k : ℕ) × (m : M) × (ply ≡ k + 1) × (slice_get ms k ≡ Some m) × IsPlayed start ms k
-      × rules.EndsSo start (take k ms) None × rules.IsRefused (position_after rules.play start ms k) m cause

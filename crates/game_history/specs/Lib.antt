@@ -1,4 +1,3 @@
 pub mod Faults
-pub mod FaultText
-pub mod Following
 pub mod Line
+pub mod internal

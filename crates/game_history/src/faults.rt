@@ -18,7 +18,7 @@ pub enum LineFault<C> {
 }
 
 impl<C: fmt::Display> fmt::Display for LineFault<C> {
-    ghost use Rattle.game_history.specs.FaultText.{fault_text};
+    ghost use Rattle.game_history.specs.internal.FaultText.{fault_text};
 
     ghost output = { fault_text C.output };
 

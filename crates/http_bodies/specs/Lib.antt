@@ -1,5 +1,5 @@
 pub mod Refusals
 pub mod Reply
-pub mod ReplyViews
 pub mod ShownViews
 pub mod Bodies
+pub mod internal

@@ -1,7 +1,6 @@
 -- The bytes of a reply.
-use Rattle.std.specs.Prelude.{ℕ, Bool, List, [], ◌∷◌, ◌++◌, Option, None, codes, decimal, length, take, drop, nat_lt}
+use Rattle.std.specs.Prelude.{ℕ, Bool, List, [], ◌++◌, codes, decimal, length}
 use Rattle.std.specs.Prelude.{unwrap_or, if◌then◌else◌}
-use Rattle.http_head.specs.Head.{number_of}
 use Rattle.http.specs.StatusCode.{reason_phrase}
 use Rattle.serde_json.specs.Data.{Data, number, unsigned, string, object, member, no_members}
 use Rattle.serde_json.specs.Written.{compact_text}
@@ -16,9 +15,6 @@ use Rattle.http_bodies.specs.declared.refusals.HttpRefusal.TheVariants.{Head, No
 use Rattle.club_requests.specs.declared.refusals.Refusal as of_club
 use Rattle.club_requests.specs.declared.refusals.Refusal.TheVariants as club
 use Rattle.http_bodies.specs.Refusals.{refusal_number, refusal_name, refusal_status}
-
-abbrev pub line_end : List ℕ
-line_end = 13 ∷ 10 ∷ []
 
 -- the status line of an HTTP/1.1 reply
 abbrev pub status_line : ℕ → List ℕ → List ℕ
@@ -116,7 +112,3 @@ page_reply caching without_body =
 abbrev pub fault_reply : ℕ → List ℕ → Caching → Bool → List ℕ
 fault_reply n name caching without_body =
     reply_bytes 503 Json (caching_lines caching) (compact_text (error_data n name)) without_body
-
--- the status in the status line, if there are bytes enough
-abbrev pub status_in : List ℕ → Option ℕ
-status_in reply = if nat_lt (length reply) 12 then None else number_of (take 3 (drop 9 reply))

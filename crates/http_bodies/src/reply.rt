@@ -6,7 +6,7 @@ ghost use Rattle.serde_json.specs.View.{view};
 ghost use Rattle.http_bodies.specs.Reply.{kind_text, status_line, type_line, length_line, reply_head, reply_bytes};
 ghost use Rattle.http_bodies.specs.Reply.{caching_lines, key_lines, further_lines, refusal_reply, error_data};
 ghost use Rattle.http_bodies.specs.Reply.{fault_reply, shown_reply, policy_line, page_reply};
-ghost use Rattle.http_bodies.specs.ReplyViews.{lines_of};
+ghost use Rattle.http_bodies.specs.internal.ReplyViews.{lines_of};
 ghost use Rattle.club_page.specs.Joined.{page};
 
 use crate::refusals::{HttpRefusal, Method};

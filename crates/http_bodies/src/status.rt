@@ -1,6 +1,6 @@
 //! The status of a reply.
 ghost use Rattle.std.specs.Prelude.{◌≡◌};
-ghost use Rattle.http_bodies.specs.Reply.{status_in};
+ghost use Rattle.http_bodies.specs.internal.Reply.{status_in};
 
 use http_head::number_of;
 

@@ -12,9 +12,10 @@ use Rattle.matchit.specs.Route.{scan}
 use Rattle.matchit.specs.Params.{walk, part_of, named, AllText}
 use Rattle.matchit.specs.Seek.{first}
 use Rattle.http_desk.specs.declared.table.Route.{Route}
-use Rattle.http_desk.specs.Paths.{segments, text_of}
+use Rattle.http_desk.specs.Paths.{segments}
+use Rattle.http_desk.specs.internal.Paths.{text_of}
 use Rattle.http_desk.specs.Routes.{routes, endpoint_by, parameter_of, endpoint_of, endpoint_of_path}
-use Rattle.http_desk.specs.Taken.{Parts, endpoint_taken}
+use Rattle.http_desk.specs.internal.Taken.{Parts, endpoint_taken}
 use Rattle.http_desk.proofs.FilledPaths.{filled, later, is_plain, HaveNoSlash}
 use Rattle.http_desk.proofs.FoundPaths.{Among, IsFound, sought}
 use Rattle.http_desk.proofs.PartTexts.{AreTexts, parameters, parts_text}

@@ -1,6 +1,6 @@
 -- The reply that the club's state and a request determine.
 use Rattle.std.specs.Prelude.{◌≡◌, ◌⊎◌, ℕ, Bool, ◌&&◌, List, [], Option, Some, None, Result, Ok, Err, option_map, codes}
-use Rattle.std.specs.Prelude.{if◌then◌else◌, is_some, true, false, ⊤}
+use Rattle.std.specs.Prelude.{if◌then◌else◌, is_some, true, false}
 use Rattle.std.specs.Str.{bytes_eq, is_utf8}
 use Rattle.serde_json.specs.Written.{compact_text}
 use Rattle.club_requests.specs.declared.refusals.Refusal as of_club
@@ -31,9 +31,7 @@ use Rattle.http_bodies.specs.declared.reply.ContentType.{ContentType}
 use Rattle.http_bodies.specs.declared.reply.ContentType.TheVariants.{Json}
 use Rattle.http_bodies.specs.Reply.{refusal_reply, shown_reply, page_reply, fault_reply}
 use Rattle.http_bodies.specs.Bodies.{reply_data, move_text, challenge_of, answer_of}
-use Rattle.http_desk.specs.Served.{Club, IsOfCall, Serves}
-use Rattle.http_desk.specs.declared.desk.AnswerFault.{AnswerFault}
-use Rattle.http_desk.specs.declared.desk.AnswerFault.TheVariants as stop
+use Rattle.http_desk.specs.Served.{Club, IsOfCall}
 
 -- the content of a reply
 pub data Answer : Type 0 where
@@ -183,22 +181,6 @@ abbrev pub caching_behind : ParseState → Caching
 caching_behind unfinished = Unspecified
 caching_behind (refused r) = Unspecified
 caching_behind (whole request) = caching_for request.target
-
--- the faults of an open club
-abbrev pub IsStop : AnswerFault → Type 0
-IsStop (stop.Club fault) = IsOfCall fault
-IsStop stop.Memory = ⊤
-
--- the effect of a call with this next state and expected answer
-abbrev pub ServesDue : {S A : Type 0} → Club S → (S → Type 0) → (S → S → Type 0) → (A → Answer) → S → S × ExpectedReply
-    → Result A AnswerFault → Type 0
-ServesDue club stands leaves view s due result =
-    Serves stands leaves s due.0 (λ a. IsExpectedReply club s due.1 (view a)) IsStop result
-
--- the member that a call names: the expected one, or at a fault that one or nobody
-abbrev pub NamesExpectedCaller : {A : Type 0} → Option (List ℕ) → Option (List ℕ) → Result A AnswerFault → Type 0
-NamesExpectedCaller due told (Ok a) = told ≡ due
-NamesExpectedCaller due told (Err fault) = (told ≡ None) ⊎ (told ≡ due)
 
 -- ---- replies
 

@@ -1,10 +1,8 @@
 pub mod Faults
 pub mod Paths
 pub mod Routes
-pub mod Taken
 pub mod Questions
 pub mod Served
 pub mod Desk
-pub mod DeskViews
-pub mod Closed
 pub mod There
+pub mod internal

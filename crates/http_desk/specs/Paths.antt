@@ -1,7 +1,7 @@
 -- The path of a request target, and its segments.
 use Rattle.std.specs.Prelude.{ℕ, Bool, ◌&&◌, ◌==◌, List, [], ◌∷◌, Option, Some, None, codes, length, take, drop, nat_lt}
 use Rattle.std.specs.Prelude.{if◌then◌else◌}
-use Rattle.std.specs.Str.{bytes_eq, is_utf8}
+use Rattle.std.specs.Str.{bytes_eq}
 
 -- the byte between the segments of a path
 abbrev pub slash : ℕ
@@ -39,7 +39,3 @@ with_byte x (segment ∷ more) = (x ∷ segment) ∷ more
 abbrev pub segments : List ℕ → List (List ℕ)
 segments [] = [] ∷ []
 segments (x ∷ path) = if x == slash then [] ∷ segments path else with_byte x (segments path)
-
--- the bytes as a text, if they are UTF-8
-abbrev pub text_of : List ℕ → Option (List ℕ)
-text_of bytes = if is_utf8 bytes then Some bytes else None

@@ -15,7 +15,7 @@ pub struct UnavailableClub {
 
 impl ClubService for UnavailableClub {
     ghost use Rattle.std.specs.Prelude.{◌≡◌};
-    ghost use Rattle.http_desk.specs.Closed.{closed};
+    ghost use Rattle.http_desk.specs.internal.Closed.{closed};
 
     ghost State = { Unit {0} };
 

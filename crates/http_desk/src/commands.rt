@@ -5,8 +5,9 @@ ghost use Rattle.club_core.specs.Answer.{command_of, game_command_of, outcome_of
 ghost use Rattle.club_core.specs.State.{key_holder, on_game, withdraw_challenge};
 ghost use Rattle.http_bodies.specs.Bodies.{reply_data};
 ghost use Rattle.http_bodies.specs.declared.reply.ContentType.TheVariants.{Json};
-ghost use Rattle.http_desk.specs.Desk.{shows, command_given, outcome_answer, serve_command, ServesDue};
-ghost use Rattle.http_desk.specs.DeskViews.{answer_view, command_view};
+ghost use Rattle.http_desk.specs.Desk.{shows, command_given, outcome_answer, serve_command};
+ghost use Rattle.http_desk.specs.internal.Desk.{ServesDue};
+ghost use Rattle.http_desk.specs.internal.DeskViews.{answer_view, command_view};
 
 use crate::desk::{AnswerFault, Response};
 use crate::routes::Endpoint;

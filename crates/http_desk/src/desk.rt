@@ -1,16 +1,18 @@
 //! The reply to a request: route, method, key, then query or command.
 ghost use Rattle.std.specs.Prelude.{◌≡◌, None, IfOk, IfErr, option_map, option_and_then, string_bytes};
 ghost use Rattle.http_head.specs.Request.{whole};
-ghost use Rattle.http_head.specs.RequestViews.{request_view, seen_view};
-ghost use Rattle.http_desk.specs.Paths.{text_of};
+ghost use Rattle.http_head.specs.internal.RequestViews.{request_view, seen_view};
+ghost use Rattle.http_desk.specs.internal.Paths.{text_of};
 ghost use Rattle.http_desk.specs.Desk.{is_method, answer_reply, serve_page, serve_known, serve_caller, serve_asked};
 ghost use Rattle.http_desk.specs.Desk.{serve};
-ghost use Rattle.http_desk.specs.Desk.{ServesDue, RepliesTo, Answers, shut_known, shut_caller, shut_asked, shut_serve};
+ghost use Rattle.http_desk.specs.Desk.{RepliesTo, Answers, shut_known, shut_caller, shut_asked, shut_serve};
+ghost use Rattle.http_desk.specs.internal.Desk.{ServesDue};
 ghost use Rattle.http_desk.specs.Desk.{shut_text, shut_reply, IsShutReply};
-ghost use Rattle.http_desk.specs.Desk.{known_caller, caller_for, asked_caller, caller, NamesExpectedCaller};
+ghost use Rattle.http_desk.specs.Desk.{known_caller, caller_for, asked_caller, caller};
+ghost use Rattle.http_desk.specs.internal.Desk.{NamesExpectedCaller};
 ghost use Rattle.http_desk.specs.Desk.{NamesCaller, NamesCallerOf};
 ghost use Rattle.http_desk.specs.Routes.{caching_for};
-ghost use Rattle.http_desk.specs.DeskViews.{answer_view, endpoint_view, IsShutBy};
+ghost use Rattle.http_desk.specs.internal.DeskViews.{answer_view, endpoint_view, IsShutBy};
 
 use crate::commands::{serve_command, turn_given, withdrawal};
 use crate::faults::{ClubFault, DeskFault};

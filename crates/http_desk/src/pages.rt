@@ -1,6 +1,7 @@
 //! Routes that query the club.
-ghost use Rattle.http_desk.specs.Desk.{question_page, ServesDue};
-ghost use Rattle.http_desk.specs.DeskViews.{answer_view, endpoint_view};
+ghost use Rattle.http_desk.specs.Desk.{question_page};
+ghost use Rattle.http_desk.specs.internal.Desk.{ServesDue};
+ghost use Rattle.http_desk.specs.internal.DeskViews.{answer_view, endpoint_view};
 
 use crate::desk::{AnswerFault, Response};
 use crate::questions::question_of;

@@ -1,6 +1,6 @@
 //! Queries of members: the question that an endpoint asks.
 ghost use Rattle.std.specs.Prelude.{IfOk};
-ghost use Rattle.http_desk.specs.DeskViews.{endpoint_view};
+ghost use Rattle.http_desk.specs.internal.DeskViews.{endpoint_view};
 ghost use Rattle.http_desk.specs.Questions.{Asks};
 
 use crate::routes::Endpoint;

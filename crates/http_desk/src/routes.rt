@@ -1,11 +1,12 @@
 //! The router: from a request target to an endpoint, a route with the parameters of a path.
 ghost use Rattle.std.specs.Prelude.{◌≡◌, [], IfOk, Ok, length, map, option_map};
 ghost use Rattle.matchit.specs.Params.{AllText, named};
-ghost use Rattle.http_desk.specs.Paths.{before, starts_with, path_after_authority, path_of, text_of};
+ghost use Rattle.http_desk.specs.Paths.{before, starts_with, path_after_authority, path_of};
+ghost use Rattle.http_desk.specs.internal.Paths.{text_of};
 ghost use Rattle.http_desk.specs.Routes.{route_with, with_routes, number_given, text_given, match_route};
 ghost use Rattle.http_desk.specs.Routes.{caching_at};
-ghost use Rattle.http_desk.specs.Taken.{parts_taken, endpoint_taken};
-ghost use Rattle.http_desk.specs.DeskViews.{endpoint_view};
+ghost use Rattle.http_desk.specs.internal.Taken.{parts_taken, endpoint_taken};
+ghost use Rattle.http_desk.specs.internal.DeskViews.{endpoint_view};
 
 use crate::table::{Access, Route, TABLE, Topic};
 use http_bodies::{Caching, Method};

@@ -12,7 +12,7 @@ use Rattle.http_head.specs.Head.{ParsedHead}
 use Rattle.http_head.specs.Request.{unfinished, refused, body_seen, IsDecided}
 use Rattle.http_head.specs.declared.intake.RequestReader.{RequestReader}
 use Rattle.http_head.specs.declared.intake.RequestReader.TheVariants.{Head, Body}
-use Rattle.http_head.specs.Intake.{IsScanOf, IsBodyOf, IsIntake}
+use Rattle.http_head.specs.internal.Intake.{IsScanOf, IsBodyOf, IsIntake}
 use Rattle.http_head.proofs.HeadReading.{Gives}
 use Rattle.http_head.proofs.RequestLemmas.{head_alone, no_end, with_end, end_more}
 

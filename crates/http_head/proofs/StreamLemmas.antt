@@ -4,7 +4,7 @@ use Rattle.std.proofs.Common.{refl, append_assoc, arith, length-drop, take_all}
 use Rattle.std.proofs.KnownBytes.{Appends-trans, Appends-kept, Consumes-trans, Consumes-kept}
 use Rattle.std.proofs.Math.Seq.{take-add}
 use Rattle.std.specs.Io.KnownBytes.{Consumes, Keeps, Appends}
-use Rattle.http_head.specs.Intake.{HasTaken}
+use Rattle.http_head.specs.internal.Intake.{HasTaken}
 
 -- a write of some bytes of a slice from a place on
 pub appends_slice : (a b c : Option (List ℕ)) (bytes : List ℕ) (at n next : ℕ) → next ≡ at + n

@@ -1,7 +1,5 @@
 pub mod Framing
 pub mod Head
-pub mod HeadViews
 pub mod Refusals
 pub mod Request
-pub mod RequestViews
-pub mod Intake
+pub mod internal

@@ -10,7 +10,7 @@ ghost use Rattle.http_head.specs.Framing.{scan_start, end_from};
 ghost use Rattle.http_head.specs.Head.{is_name, field_occurrence, is_number, number_of, named_length, has_good_host};
 ghost use Rattle.http_head.specs.Head.{is_absent};
 ghost use Rattle.http_head.specs.Head.{single_value, body_length, outline_from, outline_of, IsReadAs};
-ghost use Rattle.http_head.specs.HeadViews.{occurrence_view, outline_result};
+ghost use Rattle.http_head.specs.internal.HeadViews.{occurrence_view, outline_result};
 
 use crate::refusals::HeadRefusal;
 use httparse::Status;

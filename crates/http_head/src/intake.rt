@@ -2,7 +2,7 @@
 //!
 //! It is kept between reads, so that no byte is scanned twice.
 ghost use Rattle.std.specs.Prelude.{[], IsTrue};
-ghost use Rattle.http_head.specs.Intake.{IsIntake, IsBodyOf};
+ghost use Rattle.http_head.specs.internal.Intake.{IsIntake, IsBodyOf};
 ghost use Rattle.http_head.specs.Request.{IsDecided};
 
 use crate::framing::Scan;

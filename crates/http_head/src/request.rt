@@ -1,10 +1,10 @@
 //! Parsing of requests from any prefix of their bytes.
 ghost use Rattle.std.specs.Prelude.{◌≡◌, Ok, length};
 ghost use Rattle.http_head.specs.Head.{ParsedHead as outline};
-ghost use Rattle.http_head.specs.HeadViews.{outline_view};
+ghost use Rattle.http_head.specs.internal.HeadViews.{outline_view};
 ghost use Rattle.http_head.specs.Request.{Sees, ParseState as seen, body_seen, skip_line_breaks, begin_with_head};
 ghost use Rattle.http_head.specs.Request.{asks_head};
-ghost use Rattle.http_head.specs.RequestViews.{seen_view};
+ghost use Rattle.http_head.specs.internal.RequestViews.{seen_view};
 
 use crate::framing::Scan;
 use crate::head::{ParsedHead, read_head};

@@ -1,7 +1,7 @@
 //! Reading a request from a stream.
 ghost use Rattle.std.specs.Prelude.{◌⊎◌, IfOk};
 ghost use Rattle.std.specs.Io.KnownBytes.{IsAtEnd};
-ghost use Rattle.http_head.specs.Intake.{HasTaken};
+ghost use Rattle.http_head.specs.internal.Intake.{HasTaken};
 ghost use Rattle.http_head.specs.Request.{IsDecided};
 
 use crate::intake::RequestReader;

@@ -14,7 +14,8 @@ use Rattle.std.proofs.lemmas.Nat.Bits.{shr_and_one, bit_at-lt, bit_at_and, bit_a
 use Rattle.std.proofs.lemmas.Nat.Bits.{bit_at_lowest, bit_at_set_same, bit_at_set_other, bit_at_clear_same}
 use Rattle.std.proofs.lemmas.Nat.Bits.{bit_at_clear_other, bit_at-trailing_zeros, bit_at_cat_low, bit_at_cat_high}
 use Rattle.std.proofs.lemmas.Nat.Bits.{same_from_bits, bit_at-zero, bit_at_above}
-use Rattle.masks.specs.Words.{has_bit, nat_eq_below, nat_eq_same}
+use Rattle.masks.specs.Words.{has_bit}
+use Rattle.masks.specs.internal.Words.{nat_eq_below, nat_eq_same}
 
 nat_eq_other : (n q : ℕ) → n ≢ q → nat_eq n q ≡ false
 nat_eq_other n q h = grind (arith, common_steps)

@@ -5,8 +5,9 @@ use Rattle.std.specs.Int.{bit_at}
 use Rattle.std.specs.FinSet as set
 use Rattle.std.proofs.lemmas.Bool.{cases_lt}
 use Rattle.std.proofs.lemmas.Nat.Bits.{bit_at_cat_high, bit_at_lowest}
-use Rattle.masks.specs.Words.{Numbers, IsLeast, IsGreatest, has_bit, has_bit_above, set_of_word, contains_at}
-use Rattle.masks.specs.Words.{contains_below}
+use Rattle.masks.specs.Words.{Numbers, has_bit, set_of_word}
+use Rattle.masks.specs.internal.Words.{IsLeast, IsGreatest, has_bit_above, contains_at}
+use Rattle.masks.specs.internal.Words.{contains_below}
 use Rattle.masks.proofs.BitLemmas.{Lowest}
 
 module _ (first count w : ℕ) (h : w < 2 ^ count) (s : Numbers) (is : set_of_word first count w ≡ s) where

@@ -15,9 +15,11 @@ use Rattle.std.specs.FinSet.{nat_cmp-IsAntisymmetric}
 use Rattle.std.proofs.lemmas.Bool.{cases_order}
 use Rattle.std.proofs.Math.Nat.{pow-suc}
 use Rattle.std.proofs.lemmas.Nat.{or_lt, and_le_l, one_shl, pow_below}
-use Rattle.masks.specs.Words.{Numbers, has_bit, passing, ascending, set_of_word, word_of, word_back, Pops}
-use Rattle.masks.specs.Words.{contains_below, contains_at, has_bit_above, nat_eq_above, nat_eq_below, nat_eq_same}
-use Rattle.masks.specs.Words.{passing-below}
+use Rattle.masks.specs.Words.{Numbers, has_bit, passing, set_of_word, word_of}
+use Rattle.masks.specs.internal.Words.{ascending, word_back, Pops}
+use Rattle.masks.specs.internal.Words.{contains_below, contains_at, has_bit_above, nat_eq_above, nat_eq_below}
+use Rattle.masks.specs.internal.Words.{nat_eq_same}
+use Rattle.masks.specs.internal.Words.{passing-below}
 use Rattle.masks.proofs.BitLemmas.{no_bits, nat_eq-same, has_bit-suc, has_bit-first, ones_halved, has_bit-and}
 use Rattle.masks.proofs.BitLemmas.{has_bit-or, has_bit-not, has_bit-set, has_bit-clear, has_bit-zero, Lowest}
 

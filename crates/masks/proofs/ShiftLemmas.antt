@@ -8,7 +8,8 @@ use Rattle.std.proofs.Math.Pow.{mod-mod-pow}
 use Rattle.std.proofs.lemmas.Bool.{cases_lt}
 use Rattle.std.proofs.lemmas.Nat.{pow_pos, shr_split, mod_below, and_mask, shr_le}
 use Rattle.std.proofs.lemmas.Nat.Bits.{bit_at_cat_low, bit_at_cat_high, bit_at-zero}
-use Rattle.masks.specs.Words.{has_bit, set_of_word, contains_at, contains_below}
+use Rattle.masks.specs.Words.{has_bit, set_of_word}
+use Rattle.masks.specs.internal.Words.{contains_at, contains_below}
 
 -- the low bits of a word
 low_bit : (x count j : ℕ) → j < count → bit_at (x % 2 ^ count) j ≡ bit_at x j

@@ -1,7 +1,8 @@
 //! The bitboard of the 50 dark squares of a draughts board.
 ghost use Rattle.std.specs.Prelude.{◌≡◌, ◌↔◌, ◌+◌, ◌-◌, ◌^◌, ◌≤◌, ℕ, false, true, ◌⊎◌, ◌<◌, IsTrue};
 ghost use Rattle.std.specs.FinSet as set;
-ghost use Rattle.masks.specs.Words.{IsGreatest, IsLeast, Pops, has_bit};
+ghost use Rattle.masks.specs.Words.{has_bit};
+ghost use Rattle.masks.specs.internal.Words.{IsGreatest, IsLeast, Pops};
 
 use std::marker::Model;
 
@@ -15,7 +16,8 @@ impl Model for Bitboard50 {
     ghost use Rattle.std.specs.Prelude.{◌<◌, ◌^◌};
     ghost use Rattle.std.specs.Coded.{coded_ℕ};
     ghost use Rattle.std.specs.FinSet as sets;
-    ghost use Rattle.masks.specs.Words.{Numbers, set_of_word, word_of, word_back};
+    ghost use Rattle.masks.specs.Words.{Numbers, set_of_word, word_of};
+    ghost use Rattle.masks.specs.internal.Words.{word_back};
 
     ghost Value = { Numbers };
 

@@ -1,7 +1,8 @@
 //! The bitboard of the 81 squares of a shogi board.
 ghost use Rattle.std.specs.Prelude.{◌≡◌, ◌↔◌, ◌<◌, ◌≤◌, ℕ, false, IsTrue};
 ghost use Rattle.std.specs.FinSet as set;
-ghost use Rattle.masks.specs.Words.{Pops, has_bit};
+ghost use Rattle.masks.specs.Words.{has_bit};
+ghost use Rattle.masks.specs.internal.Words.{Pops};
 
 use std::marker::Model;
 
@@ -15,7 +16,8 @@ impl Model for Bitboard81 {
     ghost use Rattle.std.specs.Prelude.{◌<◌, ◌^◌};
     ghost use Rattle.std.specs.Coded.{coded_ℕ};
     ghost use Rattle.std.specs.FinSet as sets;
-    ghost use Rattle.masks.specs.Words.{Numbers, set_of_word, word_of, word_back};
+    ghost use Rattle.masks.specs.Words.{Numbers, set_of_word, word_of};
+    ghost use Rattle.masks.specs.internal.Words.{word_back};
 
     ghost Value = { Numbers };
 

@@ -4,7 +4,7 @@ use Rattle.std.specs.Prelude.{nat_le}
 use Rattle.std.specs.List.{range_with_len, list_all, count_by}
 use Rattle.pairings.specs.declared.table.BoardPairing.{BoardPairing}
 use Rattle.pairings.specs.Table.{games, all_games, rounds_of}
-use Rattle.pairings.specs.Laws.{games_with}
+use Rattle.pairings.specs.internal.Laws.{games_with}
 
 -- whom a player had First against
 abbrev pub against : ℕ → List BoardPairing → List ℕ

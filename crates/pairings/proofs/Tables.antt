@@ -13,7 +13,7 @@ use Rattle.pairings.specs.declared.table.BoardPairing.{BoardPairing}
 use Rattle.pairings.specs.Table.{games, all_games, rounds_of}
 use Rattle.pairings.proofs.Computed.{against, before, times, meetings, is_balanced, is_right_for, is_right, play_once}
 use Rattle.pairings.proofs.Computed.{all_right, all_once}
-use Rattle.pairings.specs.Laws.{times_first, games_as_first, games_as_second, games_with}
+use Rattle.pairings.specs.internal.Laws.{times_first, games_as_first, games_as_second, games_with}
 
 -- what holds of each number of a range
 each_in : (p : ℕ → Bool) (from count x : ℕ) → list_all p (range_with_len from count) ≡ true → from ≤ x →

@@ -1,3 +1,2 @@
-pub mod Fide
-pub mod Laws
 pub mod Table
+pub mod internal

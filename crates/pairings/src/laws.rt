@@ -1,8 +1,8 @@
 //! Properties of the pairings that `round` and `rounds` return.
 
 ghost use Rattle.std.specs.Prelude.{◌≡◌, ◌≢◌, ◌≤◌, ◌+◌, true, false};
-ghost use Rattle.pairings.specs.Fide.{fide_of_six};
-ghost use Rattle.pairings.specs.Laws.{times_first, games_as_first, games_as_second, games_with};
+ghost use Rattle.pairings.specs.internal.Fide.{fide_of_six};
+ghost use Rattle.pairings.specs.internal.Laws.{times_first, games_as_first, games_as_second, games_with};
 ghost use Rattle.pairings.specs.Table.{games, all_games, rounds_of};
 
 /// Lemma: two players meet exactly once in a single round robin, and once with each side in a double one.

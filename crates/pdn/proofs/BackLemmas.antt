@@ -5,8 +5,8 @@ use Rattle.std.specs.FinSet as set
 use Rattle.squares.specs.declared.draughts.moves.DMove.{DMove}
 use Rattle.squares.specs.DraughtsBoard.{Position}
 use Rattle.std.specs.Ordering.{nat_cmp}
-use Rattle.squares.specs.DraughtsOnBoard.{AllOnBoard, ray-on_board, ray-off}
-use Rattle.squares.specs.DraughtsGeometry.{OnBoard}
+use Rattle.squares.specs.internal.DraughtsOnBoard.{AllOnBoard, ray-on_board, ray-off}
+use Rattle.squares.specs.internal.DraughtsGeometry.{OnBoard}
 use Rattle.draughts_moves.specs.Capture.{Capture, Route, without, LegalCapture}
 use Rattle.draughts_moves.specs.Legal.{QuietMove, Legal}
 use Rattle.draughts_moves.proofs.Proved.{is_positive, Capture-len, own_at-own}

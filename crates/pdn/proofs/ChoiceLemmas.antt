@@ -5,10 +5,11 @@ use Rattle.std.proofs.lemmas.Bool.{and_parts, eqb-true, eq-eqb}
 use Rattle.std.proofs.lemmas.List.{take_more, take-append-drop}
 use Rattle.squares.specs.declared.draughts.moves.DMove.{DMove}
 use Rattle.squares.specs.DraughtsSets.{same_squares}
-use Rattle.squares.specs.DraughtsSameSquares.{same_squares-same, same_squares-itself}
-use Rattle.squares.specs.In.{In, In-left, In-right, In-take_more}
+use Rattle.squares.specs.internal.DraughtsSameSquares.{same_squares-same, same_squares-itself}
+use Rattle.squares.specs.internal.In.{In, In-left, In-right, In-take_more}
 use Rattle.pdn.specs.declared.faults.MoveFault.{MoveFault}
-use Rattle.pdn.specs.Choice.{same_move, IsChoice, IsChoiceFault, Joins, Parts}
+use Rattle.pdn.specs.Choice.{same_move}
+use Rattle.pdn.specs.internal.Choice.{IsChoice, IsChoiceFault, Joins, Parts}
 
 pub same_move-same : (a b : DMove) → same_move a b ≡ true → a ≡ b
 same_move-same a b e =

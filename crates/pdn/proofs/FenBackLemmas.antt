@@ -9,12 +9,12 @@ use Rattle.squares.specs.declared.sides.Side.TheVariants.{First, Second}
 use Rattle.squares.specs.declared.draughts.piece.DPiece.{DPiece}
 use Rattle.squares.specs.Sides.{same_side}
 use Rattle.squares.specs.DraughtsBoard.{Board, Position}
-use Rattle.squares.specs.DraughtsGeometry.{OnBoard}
+use Rattle.squares.specs.internal.DraughtsGeometry.{OnBoard}
 use Rattle.pdn.specs.declared.items.Item.{Item}
 use Rattle.pdn.specs.SquareText.{square_text}
 use Rattle.pdn.specs.FenText.{side_letter, piece_text, piece_of, pieces_on, all_squares, pieces_text, fen_text}
 use Rattle.pdn.specs.FenForm.{ReadsForm}
-use Rattle.pdn.specs.FenGrammar.{IsItemText, AreItemsText}
+use Rattle.pdn.specs.internal.FenGrammar.{IsItemText, AreItemsText}
 use Rattle.pdn.proofs.FenReadLemmas.{lists-form, text-reads}
 
 -- the squares of a side's pieces, and which of these are kings

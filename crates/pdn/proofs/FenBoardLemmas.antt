@@ -13,11 +13,12 @@ use Rattle.std.proofs.lemmas.Bool.Decides.{nat_tests}
 use Rattle.squares.specs.declared.sides.Side.{Side}
 use Rattle.squares.specs.declared.sides.Side.TheVariants.{First, Second}
 use Rattle.squares.specs.declared.draughts.piece.DPiece.{DPiece}
-use Rattle.squares.specs.Sides.{same_side, same_side-same, same_side-itself}
+use Rattle.squares.specs.Sides.{same_side}
+use Rattle.squares.specs.internal.Sides.{same_side-same, same_side-itself}
 use Rattle.squares.specs.DraughtsBoard.{Board, Position}
-use Rattle.squares.specs.DraughtsGeometry.{OnBoard}
-use Rattle.squares.specs.DraughtsMarks.{nat_eq_same, nat_eq_other}
-use Rattle.squares.specs.In.{In, In-left, In-right, In-cases}
+use Rattle.squares.specs.internal.DraughtsGeometry.{OnBoard}
+use Rattle.squares.specs.internal.DraughtsMarks.{nat_eq_same, nat_eq_other}
+use Rattle.squares.specs.internal.In.{In, In-left, In-right, In-cases}
 use Rattle.draughts_moves.proofs.Proved.{In-range}
 use Rattle.pdn.specs.declared.items.Item.{Item}
 use Rattle.pdn.specs.FenText.{all_squares, fen_text}

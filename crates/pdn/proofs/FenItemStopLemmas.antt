@@ -3,12 +3,12 @@ use Rattle.std.proofs.Common.{◌≡◌, ℕ, ◌+◌, ◌-◌, inl, inr, cond, 
 use Rattle.std.proofs.Common.{Ok, Err, refl, sym, ap, ◌∙◌, subst, append_assoc, arith, length-append}
 use Rattle.squares.specs.declared.sides.Side.{Side}
 use Rattle.squares.specs.declared.draughts.piece.DPiece.{DPiece}
-use Rattle.squares.specs.DraughtsMarks.{nat_eq-same}
+use Rattle.squares.specs.internal.DraughtsMarks.{nat_eq-same}
 use Rattle.pdn.specs.declared.items.Item.{Item}
 use Rattle.pdn.specs.SquareText.{FrontReading, read_square}
 use Rattle.pdn.specs.FenItems.{man, king, past_byte, read_end, ItemReading, king_of, range_of, after_man, men_of}
 use Rattle.pdn.specs.FenItems.{read_kind, read_item}
-use Rattle.pdn.specs.FenGrammar.{IsItemText}
+use Rattle.pdn.specs.internal.FenGrammar.{IsItemText}
 use Rattle.pdn.proofs.StopLemmas.{first, Goes, Halts, Begun, first-append, after, halts-after}
 use Rattle.pdn.proofs.NumberLemmas.{good, IsLast, Outcome, end-outcome, square-outcome}
 use Rattle.pdn.proofs.FormLemmas.{is_past, not_past}

@@ -7,10 +7,12 @@ use Rattle.std.specs.FinMap as map
 use Rattle.std.specs.FinSet as set
 use Rattle.squares.specs.declared.draughts.piece.DPiece.{DPiece}
 use Rattle.squares.specs.declared.sides.Side.{Side}
-use Rattle.squares.specs.DraughtsBoard.{Board, is_of}
+use Rattle.squares.specs.DraughtsBoard.{Board}
+use Rattle.squares.specs.internal.DraughtsBoard.{is_of}
 use Rattle.squares.specs.DraughtsSets.{Squares, ascending}
 use Rattle.squares.specs.Sides.{same_side}
-use Rattle.pdn.specs.FenText.{piece_of, piece_text, next_text, pieces_text, pieces_on, all_squares}
+use Rattle.pdn.specs.FenText.{piece_of, piece_text, pieces_text, pieces_on, all_squares}
+use Rattle.pdn.specs.internal.FenText.{next_text}
 
 -- parts after a comma each, but the first of all
 abbrev pub parted : Bool → List (List ℕ) → List ℕ

@@ -6,7 +6,7 @@ use Rattle.squares.specs.declared.sides.Side.{Side}
 use Rattle.pdn.specs.declared.items.Item.{Item}
 use Rattle.pdn.specs.FenItems.{past_byte, ItemReading, read_item, Items, ItemsReading, ReadsItems, bad_item, last_item}
 use Rattle.pdn.specs.FenItems.{more_items, ends_list, ReadsList, no_item, some_items}
-use Rattle.pdn.specs.FenGrammar.{AreItemsText}
+use Rattle.pdn.specs.internal.FenGrammar.{AreItemsText}
 use Rattle.pdn.proofs.StopLemmas.{first, Goes, Halts, Begun, after, halts-after}
 use Rattle.pdn.proofs.FenItemStopLemmas.{past_byte-is, past_byte-alike, ItemGoes, ItemOutcome, item-outcome}
 

@@ -12,7 +12,8 @@ use Rattle.pdn.specs.FenItems.{last_item, more_items, ends_list, ReadsList, no_i
 use Rattle.pdn.specs.FenForm.{Header, HeaderReading, RestReading, FenReading, read_header, read_between, past_end}
 use Rattle.pdn.specs.FenForm.{ReadsRest, bad_second, bad_end, ended, ReadsLists, bad_first, bad_between, both}
 use Rattle.pdn.specs.FenForm.{ReadsForm, bad_header, lists}
-use Rattle.pdn.specs.ReadFen.{position_of, IsFen, HasFenFault}
+use Rattle.pdn.specs.ReadFen.{position_of, IsFen}
+use Rattle.pdn.specs.internal.ReadFen.{HasFenFault}
 
 module _ (total : ℕ) (side : Side) where
   -- what is read after an item, and where no item is read

@@ -4,15 +4,15 @@ use Rattle.std.proofs.Common.{Some, None, Ok, refl, sym, ap, ◌∙◌, subst, a
 use Rattle.squares.specs.declared.sides.Side.{Side}
 use Rattle.squares.specs.declared.sides.Side.TheVariants.{First, Second}
 use Rattle.squares.specs.Sides.{other}
-use Rattle.squares.specs.DraughtsMarks.{nat_eq_other}
+use Rattle.squares.specs.internal.DraughtsMarks.{nat_eq_other}
 use Rattle.pdn.specs.declared.items.Item.{Item}
-use Rattle.pdn.specs.Grammar.{IsSquareText}
+use Rattle.pdn.specs.internal.Grammar.{IsSquareText}
 use Rattle.pdn.specs.FenText.{side_letter}
 use Rattle.pdn.specs.FenItems.{man, king, past_byte, ItemReading, range_of, after_man, read_item, Items, ReadsItems}
 use Rattle.pdn.specs.FenItems.{last_item, more_items, ends_list, ReadsList, no_item, some_items}
 use Rattle.pdn.specs.FenForm.{FenForm, Header, HeaderReading, read_header, RestReading, read_between, past_end, ended}
 use Rattle.pdn.specs.FenForm.{both, ReadsForm, lists}
-use Rattle.pdn.specs.FenGrammar.{IsItemText, AreItemsText, HasFenForm}
+use Rattle.pdn.specs.internal.FenGrammar.{IsItemText, AreItemsText, HasFenForm}
 use Rattle.squares.specs.declared.draughts.piece.DPiece.{DPiece}
 use Rattle.pdn.proofs.NumberLemmas.{good, EndsNumber, square-starts, end-read, square-read}
 use Rattle.pdn.proofs.FenItemStopLemmas.{IsItemAt, ReadsItem, item_of, kings, plain}

@@ -5,7 +5,7 @@ use Rattle.std.proofs.Common.{length-append}
 use Rattle.squares.specs.declared.sides.Side.{Side}
 use Rattle.squares.specs.declared.sides.Side.TheVariants.{First, Second}
 use Rattle.squares.specs.Sides.{other}
-use Rattle.squares.specs.DraughtsMarks.{nat_eq-same}
+use Rattle.squares.specs.internal.DraughtsMarks.{nat_eq-same}
 use Rattle.pdn.specs.declared.items.Item.{Item}
 use Rattle.pdn.specs.FenText.{side_letter}
 use Rattle.pdn.specs.FenItems.{past_byte, Items, ItemsReading, ReadsList}
@@ -13,8 +13,8 @@ use Rattle.pdn.specs.FenForm.{FenForm, SideFront, read_side, HeaderReading, head
 use Rattle.pdn.specs.FenForm.{read_header, RestReading, other_list, after_colon, read_between, left_over, after_dot}
 use Rattle.pdn.specs.FenForm.{past_end, FenReading, ReadsRest, bad_second, bad_end, ReadsLists, bad_first, bad_between}
 use Rattle.pdn.specs.FenForm.{both, ReadsForm, bad_header, lists}
-use Rattle.pdn.specs.FenGrammar.{AreItemsText, HasFenForm}
-use Rattle.pdn.specs.FenBeginnings.{BeginsFen, IsLongestFenBeginning}
+use Rattle.pdn.specs.internal.FenGrammar.{AreItemsText, HasFenForm}
+use Rattle.pdn.specs.internal.FenBeginnings.{BeginsFen, IsLongestFenBeginning}
 use Rattle.pdn.proofs.StopLemmas.{first, Halts, halts-after}
 use Rattle.pdn.proofs.OffsetLemmas.{no-longer, front-begins, at-most}
 use Rattle.pdn.proofs.FenOneLemmas.{form-one}

@@ -3,7 +3,8 @@ use Rattle.std.proofs.Common.{◌≡◌, ℕ, zero, suc, ◌+◌, ◌-◌, ◌<�
 use Rattle.std.proofs.Common.{◌++◌, length, Some, None, Ok, Err, refl, sym, ap, ◌∙◌, append_assoc, append-nil, arith}
 use Rattle.std.proofs.Common.{length-append}
 use Rattle.pdn.specs.SquareText.{FrontReading, read_square}
-use Rattle.pdn.specs.Forms.{FormReading, capture, LandingsReading, is_cross, past_hyphen, past_cross, after_squares}
+use Rattle.pdn.specs.Forms.{FormReading, capture, LandingsReading, is_cross, after_squares}
+use Rattle.pdn.specs.internal.Forms.{past_hyphen, past_cross}
 use Rattle.pdn.specs.Forms.{at_cross, after_landing, read_up_to, read_landings, capture_of, quiet_of, at_mark}
 use Rattle.pdn.specs.Forms.{read_from, read_form}
 use Rattle.pdn.proofs.NumberLemmas.{Outcome, IsLast, square-outcome, square-some}

@@ -2,12 +2,12 @@
 use Rattle.std.proofs.Common.{◌≡◌, ℕ, zero, suc, ◌+◌, ◌-◌, ◌*◌, ◌<◌, ◌≤◌, inl, inr, true, false, cond, nat_eq, ◌||◌}
 use Rattle.std.proofs.Common.{List, [], ◌∷◌, ◌++◌, length, Ok, Err, refl, sym, ap, ◌∙◌, subst, append_assoc, append-nil}
 use Rattle.std.proofs.Common.{arith, length-append}
-use Rattle.squares.specs.DraughtsMarks.{nat_eq-same, nat_eq_other}
+use Rattle.squares.specs.internal.DraughtsMarks.{nat_eq-same, nat_eq_other}
 use Rattle.pdn.specs.SquareText.{FrontReading, is_digit, square_text, read_square}
 use Rattle.pdn.specs.Forms.{Form, FormReading, quiet, capture, Landings, LandingsReading, is_cross, after_squares}
 use Rattle.pdn.specs.Forms.{at_cross, after_landing, read_landings, capture_of, quiet_of, at_mark, read_from, read_form}
-use Rattle.pdn.specs.Grammar.{IsSquareText, IsCross, AreLandings, HasForm}
-use Rattle.pdn.specs.Beginnings.{Begins}
+use Rattle.pdn.specs.internal.Grammar.{IsSquareText, IsCross, AreLandings, HasForm}
+use Rattle.pdn.specs.internal.Beginnings.{Begins}
 use Rattle.pdn.proofs.StopLemmas.{first, Goes, Halts, Begun, after, halts-after}
 use Rattle.pdn.proofs.NumberLemmas.{good, digit-text, digits-text, IsLast, Outcome, square-outcome, square-read}
 use Rattle.pdn.proofs.FormLemmas.{read_landings-step, landings-by, crossed, not_crossed, form-by, at_hyphen, at_capture}

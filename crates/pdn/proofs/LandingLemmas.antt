@@ -6,8 +6,9 @@ use Rattle.squares.specs.declared.draughts.direction.Direction.{Direction}
 use Rattle.squares.specs.declared.draughts.direction.Direction.TheVariants.{UpLeft, UpRight, DownLeft, DownRight}
 use Rattle.squares.specs.declared.draughts.piece.DPiece.{DPiece}
 use Rattle.squares.specs.DraughtsSets.{Squares}
-use Rattle.squares.specs.DraughtsGeometry.{OnBoard, IsMoved, ray}
-use Rattle.squares.specs.DraughtsOnBoard.{AllOnBoard, ray-on_board}
+use Rattle.squares.specs.DraughtsGeometry.{ray}
+use Rattle.squares.specs.internal.DraughtsGeometry.{OnBoard, IsMoved}
+use Rattle.squares.specs.internal.DraughtsOnBoard.{AllOnBoard, ray-on_board}
 use Rattle.squares.proofs.Proved.{ray-moved}
 use Rattle.draughts_moves.specs.Capture.{Cells, AllClear, is_enemy, Jump, Route}
 use Rattle.draughts_moves.proofs.Proved.{Jump-from_on}

@@ -4,10 +4,10 @@ use Rattle.std.proofs.Common.{nat_lt, nat_le, ◌&&◌, ◌||◌, List, [], ◌�
 use Rattle.std.proofs.Common.{refl, sym, ap, ◌∙◌, subst, arith}
 use Rattle.std.proofs.lemmas.Bool.{and_parts, le-leb}
 use Rattle.std.proofs.lemmas.Bool.Decides.{nat_tests}
-use Rattle.squares.specs.DraughtsGeometry.{OnBoard}
-use Rattle.squares.specs.DraughtsMarks.{nat_eq-same, nat_eq_other}
+use Rattle.squares.specs.internal.DraughtsGeometry.{OnBoard}
+use Rattle.squares.specs.internal.DraughtsMarks.{nat_eq-same, nat_eq_other}
 use Rattle.pdn.specs.SquareText.{FrontReading, is_digit, square_text, read_second, read_number, after_zero, read_square}
-use Rattle.pdn.specs.Grammar.{IsSquareText}
+use Rattle.pdn.specs.internal.Grammar.{IsSquareText}
 use Rattle.pdn.specs.FenItems.{read_end_second, can_begin, read_end_number, read_end}
 use Rattle.pdn.proofs.StopLemmas.{first, Goes, Halts, Begun, after, halts-after}
 

@@ -4,8 +4,8 @@ use Rattle.std.proofs.Common.{Err, refl, sym, ap, ◌∙◌, subst, append_assoc
 use Rattle.std.proofs.Math.Seq.{take-append-add, take-append_seam}
 use Rattle.std.proofs.lemmas.Bool.{cases_lt}
 use Rattle.pdn.specs.Forms.{Form, FormReading, read_form}
-use Rattle.pdn.specs.Grammar.{HasForm}
-use Rattle.pdn.specs.Beginnings.{Begins, IsLongestBeginning}
+use Rattle.pdn.specs.internal.Grammar.{HasForm}
+use Rattle.pdn.specs.internal.Beginnings.{Begins, IsLongestBeginning}
 use Rattle.pdn.proofs.StopLemmas.{first, Halts}
 use Rattle.pdn.proofs.GrammarLemmas.{FormOutcome, form-outcome, read_form-text, text-read_form}
 

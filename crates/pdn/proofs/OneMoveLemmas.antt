@@ -6,7 +6,8 @@ use Rattle.draughts_moves.specs.declared.checking.Illegal.{Illegal}
 use Rattle.draughts_moves.specs.declared.checking.Illegal.TheVariants.{NoSuchMove, MustCapture, NotLongest}
 use Rattle.draughts_moves.specs.Legal.{Legal}
 use Rattle.draughts_moves.specs.Listing.{step_to}
-use Rattle.draughts_moves.specs.Check.{Answer, check_of}
+use Rattle.draughts_moves.specs.Check.{Answer}
+use Rattle.draughts_moves.specs.internal.Check.{check_of}
 use Rattle.draughts_moves.proofs.Proved.{check_of-is}
 use Rattle.pdn.specs.declared.faults.MoveFault.{MoveFault}
 use Rattle.pdn.specs.declared.faults.MoveFault.TheVariants as fault

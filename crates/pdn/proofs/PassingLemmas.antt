@@ -11,16 +11,19 @@ use Rattle.squares.specs.declared.draughts.piece.DPiece.{DPiece}
 use Rattle.squares.specs.declared.draughts.moves.DMove.{DMove}
 use Rattle.squares.specs.DraughtsBoard.{Position}
 use Rattle.squares.specs.DraughtsSets.{Squares}
-use Rattle.squares.specs.DraughtsMarks.{nat_eq-same, nat_eq_same}
-use Rattle.squares.specs.In.{In, In-Contains, Contains-In, list_any-found, list_any-finds, In-map, In-from_map}
+use Rattle.squares.specs.internal.DraughtsMarks.{nat_eq-same, nat_eq_same}
+use Rattle.squares.specs.internal.In.{In, In-Contains, Contains-In, list_any-found, list_any-finds, In-map}
+use Rattle.squares.specs.internal.In.{In-from_map}
 use Rattle.draughts_moves.specs.Capture.{Cells, Jump, Route, Capture, without}
 use Rattle.draughts_moves.specs.Search.{own_at, jumps}
-use Rattle.draughts_moves.specs.Routes.{lists_in}
+use Rattle.draughts_moves.specs.internal.Routes.{lists_in}
 use Rattle.draughts_moves.proofs.Proved.{jumps-sound, jumps-complete, own_at-own, own_at-is}
-use Rattle.pdn.specs.Subsequence.{IsSubsequence, unmatched_after, is_subsequence}
-use Rattle.pdn.specs.Passing.{passes}
-use Rattle.pdn.specs.Reaching.{GoesTo, StepsTo}
-use Rattle.pdn.specs.ReadMove.{Fits, SomeFits}
+use Rattle.pdn.specs.Subsequence.{IsSubsequence}
+use Rattle.pdn.specs.internal.Subsequence.{unmatched_after, is_subsequence}
+use Rattle.pdn.specs.internal.Passing.{passes}
+use Rattle.pdn.specs.internal.Reaching.{GoesTo, StepsTo}
+use Rattle.pdn.specs.ReadMove.{Fits}
+use Rattle.pdn.specs.internal.ReadMove.{SomeFits}
 
 tail_of : (x : ℕ) (xs ys : List ℕ) → IsSubsequence (x ∷ xs) ys → IsSubsequence xs ys
 tail_of x [] ys h = tt

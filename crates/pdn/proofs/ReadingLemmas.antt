@@ -7,16 +7,17 @@ use Rattle.std.specs.FinSet as set
 use Rattle.std.proofs.lemmas.Bool.{cases_lt}
 use Rattle.squares.specs.declared.draughts.moves.DMove.{DMove}
 use Rattle.squares.specs.DraughtsBoard.{Position}
-use Rattle.squares.specs.In.{In, In-Contains, Contains-In}
-use Rattle.draughts_moves.specs.Capture.{IsMost}
+use Rattle.squares.specs.internal.In.{In, In-Contains, Contains-In}
+use Rattle.draughts_moves.specs.internal.Capture.{IsMost}
 use Rattle.draughts_moves.specs.Legal.{IsCapture, Legal}
 use Rattle.draughts_moves.specs.Search.{most}
 use Rattle.draughts_moves.proofs.Proved.{Capture-len, IsMost-most}
 use Rattle.pdn.specs.declared.faults.MoveFault.{MoveFault}
 use Rattle.pdn.specs.declared.faults.MoveFault.TheVariants as fault
 use Rattle.pdn.specs.Forms.{Form, capture, read_form}
-use Rattle.pdn.specs.Choice.{IsChoice, IsChoiceFault}
-use Rattle.pdn.specs.ReadMove.{Fits, SomeFits, NoneFits, ShortFits, StandsFor, IsFormFault, IsRead, HasReadFault}
+use Rattle.pdn.specs.internal.Choice.{IsChoice, IsChoiceFault}
+use Rattle.pdn.specs.ReadMove.{Fits, NoneFits, ShortFits, StandsFor, IsRead, HasReadFault}
+use Rattle.pdn.specs.internal.ReadMove.{SomeFits, IsFormFault}
 
 module _ (p : Position) (from : ℕ) (middle : List ℕ) (to : ℕ) where
   fits-IsCapture : (m : DMove) → Fits p from middle to m → IsCapture p m

@@ -10,24 +10,28 @@ use Rattle.squares.specs.declared.draughts.piece.DPiece.{DPiece}
 use Rattle.squares.specs.declared.draughts.moves.DMove.{DMove}
 use Rattle.squares.specs.DraughtsBoard.{Position}
 use Rattle.squares.specs.TheOnly.{TheOnly}
-use Rattle.squares.specs.In.{In, In-map, In-Contains, Contains-In, list_any-found, list_any-finds}
+use Rattle.squares.specs.internal.In.{In, In-map, In-Contains, Contains-In, list_any-found, list_any-finds}
 use Rattle.draughts_moves.specs.declared.checking.Illegal.{Illegal}
 use Rattle.draughts_moves.specs.declared.checking.Illegal.TheVariants.{NoSuchMove, MustCapture, NotLongest}
 use Rattle.draughts_moves.specs.Capture.{Capture, without}
 use Rattle.draughts_moves.specs.Legal.{Legal}
 use Rattle.draughts_moves.specs.Search.{routes_of}
 use Rattle.draughts_moves.specs.Listing.{captures_at, move_to, step_to}
-use Rattle.draughts_moves.specs.Check.{Answer, check_of}
+use Rattle.draughts_moves.specs.Check.{Answer}
+use Rattle.draughts_moves.specs.internal.Check.{check_of}
 use Rattle.draughts_moves.proofs.Proved.{check_of-is, own_at-own, routes_of-complete, greatest-bounds, greatest-fits}
 use Rattle.draughts_moves.proofs.Proved.{In-range}
 use Rattle.pdn.specs.declared.faults.MoveFault.{MoveFault}
 use Rattle.pdn.specs.declared.faults.MoveFault.TheVariants as fault
 use Rattle.pdn.specs.Forms.{Form, FormReading, quiet, capture, read_form}
-use Rattle.pdn.specs.Passing.{passes}
-use Rattle.pdn.specs.Choice.{same_move, IsChoice, IsTie}
-use Rattle.pdn.specs.MoveValue.{legal_moves, routes_in, does_fit, Choosing, choose, some_fit, chosen, checked}
-use Rattle.pdn.specs.MoveValue.{form_reading, with_form, move_reading}
-use Rattle.pdn.specs.ReadMove.{Fits, SomeFits, NoneFits, StandsFor, IsAmbiguous, IsRefused, IsFormFault, IsRead}
+use Rattle.pdn.specs.internal.Passing.{passes}
+use Rattle.pdn.specs.Choice.{same_move}
+use Rattle.pdn.specs.internal.Choice.{IsChoice, IsTie}
+use Rattle.pdn.specs.MoveValue.{legal_moves, routes_in}
+use Rattle.pdn.specs.internal.MoveValue.{does_fit, Choosing, choose, some_fit, chosen, checked}
+use Rattle.pdn.specs.internal.MoveValue.{form_reading, with_form, move_reading}
+use Rattle.pdn.specs.ReadMove.{Fits, NoneFits, StandsFor, IsAmbiguous, IsRefused, IsRead}
+use Rattle.pdn.specs.internal.ReadMove.{SomeFits, IsFormFault}
 use Rattle.pdn.specs.ReadMove.{HasReadFault, Reading, IsReadingOf}
 use Rattle.pdn.proofs.ChoiceLemmas.{same_move-same, same_move-itself}
 use Rattle.pdn.proofs.PassingLemmas.{route-fits, fits-passes}

@@ -1,10 +1,10 @@
 -- What is written is read as its form.
 use Rattle.std.proofs.Common.{◌≡◌, ℕ, inl, List, [], ◌∷◌, ◌++◌, Ok, refl}
-use Rattle.squares.specs.DraughtsGeometry.{OnBoard}
-use Rattle.squares.specs.DraughtsOnBoard.{AllOnBoard}
+use Rattle.squares.specs.internal.DraughtsGeometry.{OnBoard}
+use Rattle.squares.specs.internal.DraughtsOnBoard.{AllOnBoard}
 use Rattle.pdn.specs.SquareText.{square_text}
 use Rattle.pdn.specs.Forms.{quiet, capture, read_form}
-use Rattle.pdn.specs.Grammar.{AreLandings}
+use Rattle.pdn.specs.internal.Grammar.{AreLandings}
 use Rattle.pdn.specs.MoveText.{quiet_text, landings_text, capture_text}
 use Rattle.pdn.proofs.GrammarLemmas.{text-read_form}
 

@@ -13,11 +13,11 @@ use Rattle.std.proofs.lemmas.Bool.{eqb-true, eq-eqb}
 use Rattle.squares.specs.declared.draughts.piece.DPiece.{DPiece}
 use Rattle.squares.specs.declared.draughts.moves.DMove.{DMove}
 use Rattle.squares.specs.DraughtsBoard.{Position}
-use Rattle.squares.specs.DraughtsMarks.{nat_eq_other}
-use Rattle.squares.specs.In.{In, list_any-found, list_any-finds}
+use Rattle.squares.specs.internal.DraughtsMarks.{nat_eq_other}
+use Rattle.squares.specs.internal.In.{In, list_any-found, list_any-finds}
 use Rattle.squares.specs.OrderedLists.{put_all}
 use Rattle.squares.specs.TheOnly.{TheOnly}
-use Rattle.squares.specs.PutLemmas.{put_all-sorted, put_all-in, put_all-has}
+use Rattle.squares.specs.internal.PutLemmas.{put_all-sorted, put_all-in, put_all-has}
 use Rattle.draughts_moves.specs.Capture.{Capture, without}
 use Rattle.draughts_moves.specs.Search.{own_at, most}
 use Rattle.draughts_moves.specs.Routes.{route_cmp, landings_of}

@@ -12,11 +12,12 @@ use Rattle.std.proofs.lemmas.Bool.{and_parts, eqb-true, eq-eqb}
 use Rattle.squares.specs.declared.draughts.moves.DMove.{DMove}
 use Rattle.squares.specs.DraughtsBoard.{Position}
 use Rattle.squares.specs.DraughtsSets.{Squares, same_squares}
-use Rattle.squares.specs.DraughtsSameSquares.{same_squares-same, same_squares-itself}
-use Rattle.squares.specs.In.{In, In-Contains, Contains-In, list_any-found, list_any-finds}
+use Rattle.squares.specs.internal.DraughtsSameSquares.{same_squares-same, same_squares-itself}
+use Rattle.squares.specs.internal.In.{In, In-Contains, Contains-In, list_any-found, list_any-finds}
 use Rattle.draughts_moves.specs.Capture.{Capture}
 use Rattle.draughts_moves.specs.Legal.{Legal}
-use Rattle.draughts_moves.specs.Routes.{route_cmp, lists_in}
+use Rattle.draughts_moves.specs.Routes.{route_cmp}
+use Rattle.draughts_moves.specs.internal.Routes.{lists_in}
 use Rattle.draughts_moves.proofs.Proved.{route_cmp-total}
 use Rattle.pdn.specs.MoveText.{IsRival, HasRival, IsFirstRoute, is_like}
 

@@ -1,36 +1,8 @@
 -- The choice of the only matching move.
-use Rattle.std.specs.Prelude.{◌≡◌, ◌≢◌, ◌==◌, ◌&&◌, Bool, Option, Some, None, List}
+use Rattle.std.specs.Prelude.{◌==◌, ◌&&◌, Bool}
 use Rattle.squares.specs.declared.draughts.moves.DMove.{DMove}
 use Rattle.squares.specs.DraughtsSets.{same_squares}
-use Rattle.squares.specs.In.{In}
-use Rattle.pdn.specs.declared.faults.MoveFault.{MoveFault}
-use Rattle.pdn.specs.declared.faults.MoveFault.TheVariants as fault
 
 -- whether two moves have the same origin, the same destination and the same captured pieces
 abbrev pub same_move : DMove → DMove → Bool
 same_move a b = (a.from == b.from) && ((a.to == b.to) && same_squares a.taken b.taken)
-
--- no move matches, or this one and no other
-abbrev pub IsChoice : (DMove → Type 0) → List DMove → Option DMove → Type 0
-IsChoice F moves None = (n : DMove) → In n moves → F n → ⊥
-IsChoice F moves (Some m) = In m moves × F m × ((n : DMove) → In n moves → F n → n ≡ m)
-
--- two different moves match
-abbrev pub IsTie : (DMove → Type 0) → List DMove → Type 0
-IsTie F moves = (m : DMove) × (n : DMove) × In m moves × F m × In n moves × F n × (m ≢ n)
-
--- the fault if there is no unique choice
-abbrev pub IsChoiceFault : (DMove → Type 0) → List DMove → MoveFault → Type 0
-IsChoiceFault F moves fault.Memory = Unit {0}
-IsChoiceFault F moves (fault.BadText offset) = ⊥
-IsChoiceFault F moves fault.Ambiguous = IsTie F moves
-IsChoiceFault F moves (fault.Illegal cause) = ⊥
-
--- the choice after one more matching move: it is the first or the same one, else there is a tie
-abbrev pub Joins : Option DMove → DMove → DMove → Type 0
-Joins None n m = m ≡ n
-Joins (Some other) n m = (m ≡ n) × (m ≡ other)
-
-abbrev pub Parts : Option DMove → DMove → MoveFault → Type 0
-Parts None n e = ⊥
-Parts (Some other) n e = (e ≡ fault.Ambiguous) × (other ≢ n)

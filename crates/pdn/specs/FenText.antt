@@ -1,6 +1,6 @@
 -- The written FEN of a position: the side to move, then White's and Black's pieces in ascending order of squares, with
 -- `K` before a king.
-use Rattle.std.specs.Prelude.{ℕ, List, ◌∷◌, ◌++◌, Bool, true, false, Option, Some, None, codes, if◌then◌else◌}
+use Rattle.std.specs.Prelude.{ℕ, List, ◌∷◌, ◌++◌, Option, Some, None, codes, if◌then◌else◌}
 use Rattle.std.specs.List.{filter_map, join_with_byte, range_with_len}
 use Rattle.std.specs.FinMap as map
 use Rattle.squares.specs.declared.sides.Side.{Side}
@@ -23,11 +23,6 @@ piece_text square piece = if piece.king then 75 ∷ square_text square else squa
 abbrev pub piece_of : Side → ℕ → Option DPiece → Option (List ℕ)
 piece_of side square None = None
 piece_of side square (Some piece) = if same_side piece.side side then Some (piece_text square piece) else None
-
--- an item of a list: after a comma, unless it is the first
-abbrev pub next_text : Bool → List ℕ → List ℕ
-next_text true item = item
-next_text false item = 44 ∷ item
 
 -- the pieces of a side on these squares, separated by commas
 unfoldable pub pieces_on : Side → Board → List ℕ → List ℕ

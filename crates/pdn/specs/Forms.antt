@@ -1,6 +1,6 @@
 -- Parser of the form of a move's text: `a-b`, or a capture `axb` with any further squares in between, where `:` may
 -- stand for `x`.
-use Rattle.std.specs.Prelude.{ℕ, ◌+◌, ◌-◌, ◌==◌, ◌||◌, List, [], ◌∷◌, ◌++◌, length, Bool, Option, Some, None, Result}
+use Rattle.std.specs.Prelude.{ℕ, ◌+◌, ◌-◌, ◌==◌, ◌||◌, List, [], ◌∷◌, ◌++◌, length, Bool, Result}
 use Rattle.std.specs.Prelude.{Ok, Err, if◌then◌else◌}
 use Rattle.std.proofs.Common.{zero, suc}
 use Rattle.pdn.specs.SquareText.{FrontReading, read_square}
@@ -27,16 +27,6 @@ LandingsReading = Result Landings ℕ
 -- `x` or `:`, the mark of a capture
 abbrev pub is_cross : ℕ → Bool
 is_cross c = (c == 120) || (c == 58)
-
--- the rest of the text after a hyphen, if it begins with one
-abbrev pub past_hyphen : List ℕ → Option (List ℕ)
-past_hyphen [] = None
-past_hyphen (c ∷ rest) = if c == 45 then Some rest else None
-
--- the rest of the text after an `x` or `:`, if it begins with one
-abbrev pub past_cross : List ℕ → Option (List ℕ)
-past_cross [] = None
-past_cross (c ∷ rest) = if is_cross c then Some rest else None
 
 -- prepends squares that took `before` bytes
 abbrev pub after_squares : List ℕ → ℕ → LandingsReading → LandingsReading

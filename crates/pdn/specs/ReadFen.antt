@@ -1,12 +1,10 @@
 -- The position that a FEN text denotes.
-use Rattle.std.specs.Prelude.{◌≡◌, ◌⊎◌, ℕ, ◌&&◌, nat_le, List, [], ◌∷◌, ◌++◌, fold, Bool, Option, Some, None, Ok, Err}
+use Rattle.std.specs.Prelude.{◌≡◌, ℕ, ◌&&◌, nat_le, List, [], ◌∷◌, ◌++◌, fold, Bool, Option, Some, None, Ok}
 use Rattle.std.specs.Prelude.{if◌then◌else◌}
 use Rattle.std.specs.List.{list_any, range_with_len}
 use Rattle.std.specs.FinMap as map
 use Rattle.squares.specs.DraughtsBoard.{Board, Position}
 use Rattle.pdn.specs.declared.items.Item.{Item}
-use Rattle.pdn.specs.declared.faults.FenFault.{FenFault}
-use Rattle.pdn.specs.declared.faults.FenFault.TheVariants as fault
 use Rattle.pdn.specs.FenForm.{FenForm, ReadsForm}
 
 -- whether two items share a square
@@ -38,14 +36,3 @@ position_of form = record { board = fold put_item map.empty form.items; turn = f
 -- the text denotes the position: it has a form, and no square is named twice
 abbrev pub IsFen : List ℕ → Position → Type 0
 IsFen text p = (form : FenForm) × ReadsForm text (Ok form) × (repeated form.items ≡ None) × (p ≡ position_of form)
-
--- The faults of a text: it has no form, or an item names a square of an earlier item.
-abbrev pub HasFenFault : List ℕ → FenFault → Type 0
-HasFenFault text fault.Memory = Unit {0}
-HasFenFault text (fault.BadText offset) = ReadsForm text (Err offset)
-    ⊎ ((form : FenForm) × ReadsForm text (Ok form) × (repeated form.items ≡ Some offset))
-
--- a syntax error, by its possible offsets
-abbrev pub IsBadAt : (ℕ → Type 0) → FenFault → Type 0
-IsBadAt at fault.Memory = Unit {0}
-IsBadAt at (fault.BadText offset) = at offset

@@ -26,10 +26,6 @@ pub record Fits (p : Position) (from : ℕ) (middle : List ℕ) (to : ℕ) (m : 
 abbrev pub NoneFits : Position → ℕ → List ℕ → ℕ → Type 0
 NoneFits p from middle to = (m : DMove) → Legal p m → Fits p from middle to m → ⊥
 
--- a capture matches, legal or not
-abbrev pub SomeFits : Position → ℕ → List ℕ → ℕ → Type 0
-SomeFits p from middle to = (m : DMove) × Fits p from middle to m
-
 -- a capture matches that takes fewer pieces than another would
 abbrev pub ShortFits : Position → ℕ → List ℕ → ℕ → Type 0
 ShortFits p from middle to = (m : DMove) × IsShortCapture p m × Fits p from middle to m
@@ -52,13 +48,6 @@ IsRefused p (quiet from to) cause = (check-answer p (step_to from to)).value ≡
 IsRefused p (capture from middle to) NoSuchMove = NoneFits p from middle to × (ShortFits p from middle to → ⊥)
 IsRefused p (capture from middle to) MustCapture = ⊥
 IsRefused p (capture from middle to) NotLongest = NoneFits p from middle to × ShortFits p from middle to
-
--- the faults of a text that has a form
-abbrev pub IsFormFault : Position → Form → MoveFault → Type 0
-IsFormFault p form fault.Memory = Unit {0}
-IsFormFault p form (fault.BadText offset) = ⊥
-IsFormFault p form fault.Ambiguous = IsAmbiguous p form
-IsFormFault p form (fault.Illegal cause) = IsRefused p form cause
 
 -- the text is read as the move
 abbrev pub IsRead : Position → List ℕ → DMove → Type 0

@@ -3,7 +3,8 @@
 ghost use Rattle.std.specs.Prelude.{◌≡◌, ◌++◌, OnOk, IfOk, string_bytes};
 ghost use Rattle.std.specs.Option.{option_map};
 ghost use Rattle.std.specs.FinMap as map;
-ghost use Rattle.pdn.specs.FenText.{side_letter, piece_text, piece_of, next_text, pieces_text, fen_text};
+ghost use Rattle.pdn.specs.FenText.{side_letter, piece_text, piece_of, pieces_text, fen_text};
+ghost use Rattle.pdn.specs.internal.FenText.{next_text};
 
 use crate::squares_text::push_square;
 use draughts_moves::Memory;

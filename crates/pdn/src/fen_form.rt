@@ -3,8 +3,8 @@ ghost use Rattle.std.specs.Prelude.{◌≡◌, ◌-◌, ◌<◌, ◌≤◌, IfOk
 ghost use Rattle.pdn.specs.FenItems.{ends_list, ReadsItems, ReadsList};
 ghost use Rattle.pdn.specs.FenForm.{read_side, read_header, read_between, left_over, past_end, ReadsRest, ReadsLists};
 ghost use Rattle.pdn.specs.FenForm.{ReadsForm};
-ghost use Rattle.pdn.specs.ReadFen.{IsBadAt};
-ghost use Rattle.pdn.specs.FenValues.{form_value};
+ghost use Rattle.pdn.specs.internal.ReadFen.{IsBadAt};
+ghost use Rattle.pdn.specs.internal.FenValues.{form_value};
 
 use crate::faults::FenFault;
 use crate::items::{Item, past_byte, read_item};

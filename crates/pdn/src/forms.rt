@@ -1,8 +1,9 @@
 //! Parser of the form of a move's text, without regard to a position.
 ghost use Rattle.std.specs.Prelude.{◌≡◌, ◌-◌, ◌≤◌, IfOk, IfErr, MatchOption, Ok, Some, None, length};
 ghost use Rattle.pdn.specs.SquareText.{read_square};
-ghost use Rattle.pdn.specs.Forms.{past_hyphen, past_cross, read_landings, quiet_of, capture_of, read_form};
-ghost use Rattle.pdn.specs.ReadForms.{form_of, IsBadForm};
+ghost use Rattle.pdn.specs.Forms.{read_landings, quiet_of, capture_of, read_form};
+ghost use Rattle.pdn.specs.internal.Forms.{past_hyphen, past_cross};
+ghost use Rattle.pdn.specs.internal.ReadForms.{form_of, IsBadForm};
 
 use crate::faults::MoveFault;
 use crate::squares_text::read_square;

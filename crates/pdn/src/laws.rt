@@ -1,10 +1,10 @@
 //! Theorems about the writers and readers of this crate, for use by other crates.
-ghost use Rattle.pdn.specs.Beginnings.{OffsetsAreLongestBeginnings, SaysLongestBeginning};
-ghost use Rattle.pdn.specs.FenBeginnings.{FenOffsetsAreLongestBeginnings};
-ghost use Rattle.pdn.specs.FenGrammar.{FenFormsAreTexts};
-ghost use Rattle.pdn.specs.Grammar.{FormsAreTexts};
-ghost use Rattle.pdn.specs.Laws.{ReadsBack, ReadsOneMove, WritesOneText, ReadsByRules, ReadsOnePosition};
-ghost use Rattle.pdn.specs.Laws.{ReadsPositionBack};
+ghost use Rattle.pdn.specs.internal.Beginnings.{OffsetsAreLongestBeginnings, SaysLongestBeginning};
+ghost use Rattle.pdn.specs.internal.FenBeginnings.{FenOffsetsAreLongestBeginnings};
+ghost use Rattle.pdn.specs.internal.FenGrammar.{FenFormsAreTexts};
+ghost use Rattle.pdn.specs.internal.Grammar.{FormsAreTexts};
+ghost use Rattle.pdn.specs.internal.Laws.{ReadsBack, ReadsOneMove, WritesOneText, ReadsByRules, ReadsOnePosition};
+ghost use Rattle.pdn.specs.internal.Laws.{ReadsPositionBack};
 
 /// The text written for a legal move is read as that move.
 pub fn reads_back()

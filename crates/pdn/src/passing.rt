@@ -1,8 +1,8 @@
 //! Matching of the landing squares that a text names with the routes of a capture.
 ghost use Rattle.std.specs.Prelude.{◌≡◌};
 ghost use Rattle.std.specs.List.{list_any};
-ghost use Rattle.pdn.specs.Subsequence.{unmatched_after, is_subsequence};
-ghost use Rattle.pdn.specs.Passing.{passes};
+ghost use Rattle.pdn.specs.internal.Subsequence.{unmatched_after, is_subsequence};
+ghost use Rattle.pdn.specs.internal.Passing.{passes};
 
 use squares::Dsq;
 

@@ -1,8 +1,8 @@
 //! Search for a capture that matches a text, legal or not.
 ghost use Rattle.std.specs.Prelude.{◌≡◌, ◌↔◌, [], IsTrue};
 ghost use Rattle.draughts_moves.specs.Capture.{without};
-ghost use Rattle.pdn.specs.Reaching.{GoesTo};
-ghost use Rattle.pdn.specs.ReadMove.{SomeFits};
+ghost use Rattle.pdn.specs.internal.Reaching.{GoesTo};
+ghost use Rattle.pdn.specs.internal.ReadMove.{SomeFits};
 
 use crate::passing::unmatched_after;
 use draughts_moves::{Mover, jumps_from, own_at};

@@ -1,8 +1,10 @@
 //! Reader of moves.
 ghost use Rattle.std.specs.Prelude.{◌≡◌, ◌↔◌, IfOk, IfErr, IsTrue};
 ghost use Rattle.pdn.specs.Forms.{quiet, capture};
-ghost use Rattle.pdn.specs.Choice.{IsChoice, IsChoiceFault, Joins, Parts, same_move};
-ghost use Rattle.pdn.specs.ReadMove.{Fits, NoneFits, StandsFor, IsRefused, IsFormFault, IsRead, HasReadFault};
+ghost use Rattle.pdn.specs.Choice.{same_move};
+ghost use Rattle.pdn.specs.internal.Choice.{IsChoice, IsChoiceFault, Joins, Parts};
+ghost use Rattle.pdn.specs.ReadMove.{Fits, NoneFits, StandsFor, IsRefused, IsRead, HasReadFault};
+ghost use Rattle.pdn.specs.internal.ReadMove.{IsFormFault};
 
 use crate::faults::MoveFault;
 use crate::forms::{Form, read_form};

@@ -1,7 +1,8 @@
 //! Reader of positions as FEN.
 ghost use Rattle.std.specs.Prelude.{◌≡◌, IfOk, IfErr, fold};
 ghost use Rattle.std.specs.List.{list_any};
-ghost use Rattle.pdn.specs.ReadFen.{shares, repeated, put_on, put_item, IsFen, HasFenFault};
+ghost use Rattle.pdn.specs.ReadFen.{shares, repeated, put_on, put_item, IsFen};
+ghost use Rattle.pdn.specs.internal.ReadFen.{HasFenFault};
 
 use crate::faults::FenFault;
 use crate::fen_form::read_fen_form;

@@ -14,9 +14,10 @@ use Rattle.squares.specs.declared.sides.Score.{Score}
 use Rattle.squares.specs.declared.sides.Score.TheVariants as score
 use Rattle.squares.specs.DraughtsBoard.{Position}
 use Rattle.squares.specs.DraughtsOpening.{opening}
-use Rattle.squares.specs.Sides.{score_text, same_score, same_score-itself}
+use Rattle.squares.specs.Sides.{score_text, same_score}
+use Rattle.squares.specs.internal.Sides.{same_score-itself}
 use Rattle.draughts_moves.specs.Legal.{Legal, play}
-use Rattle.draughts_moves.specs.Search.{has_move}
+use Rattle.draughts_moves.specs.internal.Search.{has_move}
 use Rattle.draughts_draws.specs.declared.ends.DEnd.{DEnd}
 use Rattle.draughts_draws.specs.declared.ends.DEnd.TheVariants.{PlyLimit}
 use Rattle.draughts_draws.specs.Line.{last_position, positions}
@@ -29,16 +30,17 @@ use Rattle.pdn.proofs.Proved.{le_or_more}
 use Rattle.pdn_games.specs.declared.faults.PdnFault.{PdnFault}
 use Rattle.pdn_games.specs.declared.faults.PdnFault.TheVariants as fault
 use Rattle.pdn_games.specs.declared.game.PdnGame.{PdnGame}
-use Rattle.pdn_games.specs.BackLaws.{IsPlain, IsKept}
+use Rattle.pdn_games.specs.internal.BackLaws.{IsPlain, IsKept}
 use Rattle.pdn_games.specs.declared.results.ResultWord.{ResultWord}
 use Rattle.pdn_games.specs.Results.{result_word}
-use Rattle.pdn_games.specs.SkipGrammar.{All}
+use Rattle.pdn_games.specs.internal.SkipGrammar.{All}
 use Rattle.pdn_games.specs.Tags.{is_name_byte}
 use Rattle.pdn_games.specs.Tokens.{tag, PlacedToken, Lexes, takes}
 use Rattle.pdn_games.specs.Order.{or_else}
 use Rattle.pdn_games.specs.Contents.{first_tag, move_texts, result_in, BeginsEven}
 use Rattle.pdn_games.specs.Moves.{MeanAll, AreMoves}
-use Rattle.pdn_games.specs.Reading.{score_of_result, tag_score, agrees, score_by_rules, settled, score_in, IsTextOf}
+use Rattle.pdn_games.specs.Reading.{score_of_result, tag_score, agrees, score_by_rules, settled, score_in}
+use Rattle.pdn_games.specs.internal.Reading.{IsTextOf}
 use Rattle.pdn_games.specs.Writing.{tag_line, two_digits, date_text, ply_text, plies_text, end_text, game_text}
 use Rattle.pdn_games.proofs.DigitLemmas.{all_pass, pass-all}
 use Rattle.pdn_games.proofs.TagLemmas.{tag-found}

@@ -4,10 +4,10 @@ use Rattle.std.proofs.Common.{length, take, Bool, true, false, cond, nat_eq, nat
 use Rattle.std.proofs.Common.{subst, ◌∙◌, arith}
 use Rattle.std.proofs.lemmas.Bool.{and_parts, ne_eqb}
 use Rattle.std.proofs.lemmas.Bool.Decides.{nat_tests}
-use Rattle.squares.specs.DraughtsGeometry.{OnBoard}
+use Rattle.squares.specs.internal.DraughtsGeometry.{OnBoard}
 use Rattle.pdn.specs.SquareText.{is_digit, square_text}
-use Rattle.pdn.specs.Grammar.{IsSquareText}
-use Rattle.pdn_games.specs.SkipGrammar.{All}
+use Rattle.pdn.specs.internal.Grammar.{IsSquareText}
+use Rattle.pdn_games.specs.internal.SkipGrammar.{All}
 use Rattle.pdn_games.specs.Lengths.{both, with_second, plain_len, square_len}
 
 pub digit-test : (c : ℕ) → 48 ≤ c → c ≤ 57 → is_digit c ≡ true

@@ -10,7 +10,7 @@ use Rattle.squares.specs.DraughtsBoard.{Position}
 use Rattle.pdn.specs.declared.items.Item.{Item}
 use Rattle.pdn.specs.FenText.{side_letter}
 use Rattle.pdn.specs.FenForm.{FenForm}
-use Rattle.pdn.specs.FenGrammar.{IsItemText, AreItemsText, HasFenForm, FenFormsAreTexts}
+use Rattle.pdn.specs.internal.FenGrammar.{IsItemText, AreItemsText, HasFenForm, FenFormsAreTexts}
 use Rattle.pdn.specs.ReadFen.{IsFen}
 use Rattle.pdn_games.proofs.FormTextLemmas.{square-ascii}
 

@@ -7,8 +7,8 @@ use Rattle.std.proofs.lemmas.Str.{IsUtf8-from_ascii}
 use Rattle.std.proofs.lemmas.Str.Ascii.{IsAscii-nil, IsAscii-cons}
 use Rattle.pdn.specs.SquareText.{is_digit}
 use Rattle.pdn.specs.Forms.{Form, quiet, capture}
-use Rattle.pdn.specs.Grammar.{IsSquareText, IsCross, AreLandings, HasForm}
-use Rattle.pdn_games.specs.SkipGrammar.{All}
+use Rattle.pdn.specs.internal.Grammar.{IsSquareText, IsCross, AreLandings, HasForm}
+use Rattle.pdn_games.specs.internal.SkipGrammar.{All}
 use Rattle.pdn_games.proofs.DigitLemmas.{square-is, all-append}
 
 -- a byte of ASCII that is seen

@@ -12,13 +12,13 @@ use Rattle.std.proofs.lemmas.List.{take-append-drop}
 use Rattle.std.proofs.Math.Seq.{drop-append_seam, drop-append-add, take-append_seam}
 use Rattle.pdn.specs.SquareText.{is_digit}
 use Rattle.pdn.specs.Forms.{Form, quiet, capture}
-use Rattle.pdn.specs.Grammar.{IsSquareText, HasForm}
+use Rattle.pdn.specs.internal.Grammar.{IsSquareText, HasForm}
 use Rattle.pdn.proofs.Proved.{le_or_more}
 use Rattle.pdn_games.specs.declared.results.ResultWord.{ResultWord}
 use Rattle.pdn_games.specs.declared.results.ResultWord.TheVariants as word
 use Rattle.pdn_games.specs.Lengths.{both, digits_len, dots_len, number_len, move_len}
 use Rattle.pdn_games.specs.Results.{word_text, result_at}
-use Rattle.pdn_games.specs.SkipGrammar.{All}
+use Rattle.pdn_games.specs.internal.SkipGrammar.{All}
 use Rattle.pdn_games.specs.Skips.{is_in_line, past_skipped}
 use Rattle.pdn_games.specs.Tags.{tag_front}
 use Rattle.pdn_games.specs.Tokens.{number, move_by, tag_token, word_len, longest, token_front, found, found_front}

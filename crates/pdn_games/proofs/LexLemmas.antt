@@ -10,7 +10,7 @@ use Rattle.pdn_games.specs.Tags.{TagFront, tag_front}
 use Rattle.pdn_games.specs.Tokens.{TokenFront, tag_token, word_len, result_token, longest, token_front}
 use Rattle.pdn_games.specs.Tokens.{LexStep, ended, skipped, found, stuck, found_front, front_with, front_at, PlacedToken}
 use Rattle.pdn_games.specs.Tokens.{Lexes, skips, takes}
-use Rattle.pdn_games.specs.Replaying.{HasItsForm, HaveForms}
+use Rattle.pdn_games.specs.internal.Replaying.{HasItsForm, HaveForms}
 use Rattle.pdn_games.proofs.TokenFormLemmas.{move-of}
 
 -- a token that is found, if any, has its form

@@ -6,7 +6,7 @@ use Rattle.std.proofs.lemmas.List.{length-append, take-append-drop, length-take-
 use Rattle.std.proofs.Math.Seq.{drop-append_seam}
 use Rattle.pdn.specs.SquareText.{is_digit}
 use Rattle.pdn.specs.Forms.{Form, quiet, capture, is_cross}
-use Rattle.pdn.specs.Grammar.{IsSquareText, IsCross, IsLanding, AreLandings, HasForm}
+use Rattle.pdn.specs.internal.Grammar.{IsSquareText, IsCross, IsLanding, AreLandings, HasForm}
 use Rattle.pdn_games.specs.Lengths.{both, either, square_len, step_len, landing_len, landings_within, landings_len}
 use Rattle.pdn_games.specs.Lengths.{tail_len, move_len}
 use Rattle.pdn_games.proofs.LengthLemmas.{within-more}

@@ -9,13 +9,14 @@ use Rattle.squares.specs.declared.draughts.moves.DMove.{DMove}
 use Rattle.squares.specs.DraughtsBoard.{Position}
 use Rattle.squares.specs.DraughtsOpening.{opening}
 use Rattle.draughts_moves.specs.declared.checking.Illegal.{Illegal}
-use Rattle.draughts_moves.specs.Check.{check_of}
-use Rattle.draughts_moves.specs.Laws.{CheckIs}
+use Rattle.draughts_moves.specs.internal.Check.{check_of}
+use Rattle.draughts_moves.specs.internal.Laws.{CheckIs}
 use Rattle.draughts_moves.specs.Legal.{Legal, play}
 use Rattle.draughts_draws.specs.declared.ends.DEnd.{DEnd}
 use Rattle.draughts_draws.specs.Line.{last_position}
 use Rattle.draughts_draws.specs.Ends.{end_of}
-use Rattle.draughts_draws.specs.Faults.{draughts_lines, IsPlayed, HasFault}
+use Rattle.draughts_draws.specs.Faults.{draughts_lines, IsPlayed}
+use Rattle.draughts_draws.specs.internal.Faults.{HasFault}
 use Rattle.pdn.specs.ReadMove.{IsRead}
 use Rattle.pdn_games.specs.Moves.{MeanAll}
 

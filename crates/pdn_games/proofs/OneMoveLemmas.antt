@@ -10,8 +10,9 @@ use Rattle.squares.specs.DraughtsOpening.{opening}
 use Rattle.draughts_moves.specs.Legal.{play}
 use Rattle.draughts_draws.specs.Line.{last_position}
 use Rattle.draughts_draws.specs.Ends.{end_of}
-use Rattle.draughts_draws.specs.Faults.{GoesOn, IsPlayed}
-use Rattle.pdn.specs.Laws.{ReadsOneMove}
+use Rattle.draughts_draws.specs.Faults.{IsPlayed}
+use Rattle.draughts_draws.specs.internal.Faults.{GoesOn}
+use Rattle.pdn.specs.internal.Laws.{ReadsOneMove}
 use Rattle.pdn.specs.declared.faults.MoveFault.{MoveFault}
 use Rattle.pdn.specs.declared.faults.MoveFault.TheVariants as move_fault
 use Rattle.pdn.specs.ReadMove.{IsRead, HasReadFault}

@@ -3,15 +3,16 @@ use Rattle.std.proofs.Common.{◌≡◌, ℕ, List, length, Option, Some, None, 
 use Rattle.std.proofs.Common.{subst, ◌∙◌}
 use Rattle.squares.specs.declared.sides.Score.{Score}
 use Rattle.squares.specs.DraughtsOpening.{opening}
-use Rattle.pdn.specs.Laws.{ReadsOneMove}
+use Rattle.pdn.specs.internal.Laws.{ReadsOneMove}
 use Rattle.pdn_games.specs.declared.faults.PdnFault.{PdnFault}
 use Rattle.pdn_games.specs.declared.faults.PdnFault.TheVariants as fault
 use Rattle.pdn_games.specs.declared.game.PdnGame.{PdnGame}
 use Rattle.pdn_games.specs.Tokens.{PlacedToken, TextTokens}
 use Rattle.pdn_games.specs.Order.{bad_at}
 use Rattle.pdn_games.specs.Contents.{move_texts}
-use Rattle.pdn_games.specs.Reading.{score_in, AreTokens, IsGameOf, EndFails, Fails, IsTextOf, TextFails, IsRefused}
-use Rattle.pdn_games.specs.ReadingLaws.{SameGame}
+use Rattle.pdn_games.specs.Reading.{score_in, AreTokens, EndFails, Fails, TextFails, IsRefused}
+use Rattle.pdn_games.specs.internal.Reading.{IsGameOf, IsTextOf}
+use Rattle.pdn_games.specs.internal.ReadingLaws.{SameGame}
 use Rattle.pdn_games.proofs.OneTokenLemmas.{SameTokens, tokens-one}
 use Rattle.pdn_games.proofs.OneMoveLemmas.{mean-one, moves-unrefused}
 

@@ -9,14 +9,15 @@ use Rattle.std.proofs.lemmas.Bool.Decides.{nat_tests}
 use Rattle.std.proofs.lemmas.List.{take-append-drop}
 use Rattle.std.proofs.lemmas.List.Folds.{length-prefix_len}
 use Rattle.std.proofs.Math.Seq.{drop-append_seam}
-use Rattle.squares.specs.DraughtsMarks.{nat_eq-same}
+use Rattle.squares.specs.internal.DraughtsMarks.{nat_eq-same}
 use Rattle.pdn.specs.SquareText.{is_digit}
 use Rattle.pdn_games.specs.declared.skips.Nesting.{Nesting}
 use Rattle.pdn_games.specs.Lengths.{digits_len}
 use Rattle.pdn_games.specs.Skips.{is_blank, is_mark, is_in_line, past_first, past_brackets, past_marks}
 use Rattle.pdn_games.specs.Skips.{past_line, past_skipped}
-use Rattle.pdn_games.specs.SkipGrammar.{Lacks, IsRun, IsInner, nothing, byte, braces, brackets, IsSkipped, blank}
-use Rattle.pdn_games.specs.SkipGrammar.{comment, note, variation, marks, line_end}
+use Rattle.pdn_games.specs.internal.SkipGrammar.{Lacks, IsRun, IsInner, nothing, byte, braces, brackets, IsSkipped}
+use Rattle.pdn_games.specs.internal.SkipGrammar.{blank}
+use Rattle.pdn_games.specs.internal.SkipGrammar.{comment, note, variation, marks, line_end}
 
 -- by cases of a test that something goes by
 pub by-bool : {B G : Type 0} (f : Bool → B) (b : Bool) (z : B) → f b ≡ z → (b ≡ true → f true ≡ z → G)

@@ -5,12 +5,12 @@ use Rattle.std.specs.List.{prefix_len}
 use Rattle.std.specs.Option.{option_map_or}
 use Rattle.std.proofs.lemmas.Bool.{ne_eqb}
 use Rattle.std.proofs.Math.Seq.{take-append_seam, drop-append_seam, drop-append-add}
-use Rattle.squares.specs.DraughtsMarks.{nat_eq-same}
+use Rattle.squares.specs.internal.DraughtsMarks.{nat_eq-same}
 use Rattle.pdn.specs.FenItems.{past_byte}
-use Rattle.pdn_games.specs.SkipGrammar.{All, StopsAt}
+use Rattle.pdn_games.specs.internal.SkipGrammar.{All, StopsAt}
 use Rattle.pdn_games.specs.Tags.{is_name_byte, is_space, past_spaces, Part, name_front, quote_at, up_to_quote}
 use Rattle.pdn_games.specs.Tags.{value_front, TagFront, with_end, with_value, with_quote, with_name, tag_front}
-use Rattle.pdn_games.specs.TagGrammar.{IsValue, nothing, byte, escaped, IsTag}
+use Rattle.pdn_games.specs.internal.TagGrammar.{IsValue, nothing, byte, escaped, IsTag}
 use Rattle.pdn_games.proofs.SkipLemmas.{by-bool, by-test, same-some, none-some, from-some, un-test, run-of, parts-run}
 use Rattle.pdn_games.proofs.SkipLemmas.{run-past, some-taken}
 

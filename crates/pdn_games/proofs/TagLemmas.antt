@@ -1,10 +1,10 @@
 -- A tag that is written is found as it was written.
 use Rattle.std.proofs.Common.{◌≡◌, ℕ, ◌<◌, List, [], ◌∷◌, ◌++◌, length, Bool, true, false, refl, ap, ◌∙◌}
-use Rattle.pdn_games.specs.BackLaws.{IsPlain}
+use Rattle.pdn_games.specs.internal.BackLaws.{IsPlain}
 use Rattle.pdn_games.specs.Skips.{past_skipped}
-use Rattle.pdn_games.specs.SkipGrammar.{All}
+use Rattle.pdn_games.specs.internal.SkipGrammar.{All}
 use Rattle.pdn_games.specs.Tags.{is_name_byte, tag_front}
-use Rattle.pdn_games.specs.TagGrammar.{IsValue, nothing, byte}
+use Rattle.pdn_games.specs.internal.TagGrammar.{IsValue, nothing, byte}
 use Rattle.pdn_games.specs.Tokens.{tag, tag_token, token_front, found, found_front, front_at}
 use Rattle.pdn_games.proofs.TagGrammarLemmas.{split-tag}
 

@@ -7,10 +7,11 @@ use Rattle.squares.specs.declared.draughts.moves.DMove.{DMove}
 use Rattle.pdn_games.specs.declared.faults.PdnFault.{PdnFault}
 use Rattle.pdn_games.specs.declared.tokens.PlacedToken as read
 use Rattle.pdn_games.specs.Tokens.{Token, move_by, PlacedToken}
-use Rattle.pdn_games.specs.TokenValues.{token_of, placed_of, all_placed}
+use Rattle.pdn_games.specs.internal.TokenValues.{token_of, placed_of, all_placed}
 use Rattle.pdn_games.specs.Contents.{texts_in, move_texts}
-use Rattle.pdn_games.specs.Moves.{AreMoves, RefusesMoves}
-use Rattle.pdn_games.specs.Replaying.{HasItsForm, HaveForms, RefusesIn}
+use Rattle.pdn_games.specs.Moves.{AreMoves}
+use Rattle.pdn_games.specs.internal.Moves.{RefusesMoves}
+use Rattle.pdn_games.specs.internal.Replaying.{HasItsForm, HaveForms, RefusesIn}
 
 texts_in-append : (t : Token) (xs : List (List ℕ)) → texts_in t xs ≡ texts_in t [] ++ xs
 texts_in-append (move_by text) xs = refl

@@ -4,15 +4,15 @@ use Rattle.std.proofs.Common.{append-nil, length, take, drop, true, false, cond,
 use Rattle.std.proofs.Common.{ap, subst, ◌∙◌, arith}
 use Rattle.std.proofs.lemmas.Bool.Decides.{nat_tests}
 use Rattle.std.proofs.Math.Seq.{take-add}
-use Rattle.squares.specs.DraughtsGeometry.{OnBoard}
-use Rattle.squares.specs.DraughtsMarks.{nat_eq-same}
+use Rattle.squares.specs.internal.DraughtsGeometry.{OnBoard}
+use Rattle.squares.specs.internal.DraughtsMarks.{nat_eq-same}
 use Rattle.pdn.specs.SquareText.{is_digit, square_text}
 use Rattle.pdn.specs.Forms.{quiet, capture, is_cross}
-use Rattle.pdn.specs.Grammar.{IsSquareText, IsCross, IsLanding, AreLandings}
+use Rattle.pdn.specs.internal.Grammar.{IsSquareText, IsCross, IsLanding, AreLandings}
 use Rattle.pdn.proofs.Proved.{one_digit, two_digits}
 use Rattle.pdn_games.specs.Lengths.{both, with_second, plain_len, square_len, step_len, landing_len}
 use Rattle.pdn_games.specs.Lengths.{landings_within, landings_len, tail_len, move_len}
-use Rattle.pdn_games.specs.Replaying.{IsMoveForm}
+use Rattle.pdn_games.specs.internal.Replaying.{IsMoveForm}
 use Rattle.pdn_games.proofs.DigitLemmas.{both-sum}
 use Rattle.pdn_games.proofs.LengthLemmas.{within-none, within-more}
 use Rattle.pdn_games.proofs.SkipLemmas.{by-bool}

@@ -8,7 +8,7 @@ use Rattle.std.proofs.lemmas.List.{take_more}
 use Rattle.std.proofs.lemmas.Option.{slice_get-get_or}
 use Rattle.std.proofs.Math.Seq.{drop-cons}
 use Rattle.record_writer.specs.Pieces.{AppendsSome}
-use Rattle.record_writer.specs.PieceLaws.{begun-next, begun-longer}
+use Rattle.record_writer.specs.internal.PieceLaws.{begun-next, begun-longer}
 use Rattle.squares.specs.declared.draughts.moves.DMove.{DMove}
 use Rattle.squares.specs.DraughtsBoard.{Position}
 use Rattle.squares.specs.DraughtsOpening.{opening}
@@ -20,8 +20,9 @@ use Rattle.pdn.specs.MoveValue.{move_text}
 use Rattle.pdn_games.specs.declared.head.PdnHead.{PdnHead}
 use Rattle.pdn_games.specs.declared.game_writer.GameWriter.{GameWriter}
 use Rattle.pdn_games.specs.Writing.{ply_text, plies_text, end_text}
-use Rattle.pdn_games.specs.Writer.{tags_text, text_up_to, whole_text, HasWritten, AddsMove, BeginsMove, StandsStill}
-use Rattle.pdn_games.specs.Writer.{Finishes, BeginsEnd, TagsBeginGames, MovesBeginGames}
+use Rattle.pdn_games.specs.internal.Writer.{tags_text, text_up_to, whole_text, HasWritten, AddsMove, BeginsMove}
+use Rattle.pdn_games.specs.internal.Writer.{StandsStill}
+use Rattle.pdn_games.specs.internal.Writer.{Finishes, BeginsEnd, TagsBeginGames, MovesBeginGames}
 
 -- the text of moves that go on
 pub plies-append : (p : Position) (n : ℕ) (ms more : List DMove)

@@ -1,5 +1,5 @@
 -- The moves that the texts of a game denote, each in its position.
-use Rattle.std.specs.Prelude.{◌≡◌, ◌⊎◌, ℕ, ◌+◌, List, [], ◌∷◌, ◌++◌, length, None, IsSome}
+use Rattle.std.specs.Prelude.{◌≡◌, ℕ, ◌+◌, List, [], ◌∷◌, ◌++◌, length, None, IsSome}
 use Rattle.squares.specs.declared.draughts.moves.DMove.{DMove}
 use Rattle.squares.specs.DraughtsBoard.{Position}
 use Rattle.squares.specs.DraughtsOpening.{opening}
@@ -43,7 +43,3 @@ pub record RefusesMove (texts : List (List ℕ)) (f : PdnFault) : Type 0 where
   pub moves : List DMove
   pub played : AreMoves before moves
   pub refuses : RefusesNext moves refused f
-
--- out of memory, or one of the texts is refused
-abbrev pub RefusesMoves : List (List ℕ) → PdnFault → Type 0
-RefusesMoves texts f = (f ≡ fault.Memory) ⊎ RefusesMove texts f

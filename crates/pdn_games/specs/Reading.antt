@@ -11,7 +11,6 @@ use Rattle.draughts_draws.specs.Line.{last_position}
 use Rattle.draughts_draws.specs.Ends.{end_of, outcome_of}
 use Rattle.pdn_games.specs.declared.faults.PdnFault.{PdnFault}
 use Rattle.pdn_games.specs.declared.faults.PdnFault.TheVariants as fault
-use Rattle.pdn_games.specs.declared.game.PdnGame.{PdnGame}
 use Rattle.pdn_games.specs.declared.results.ResultWord.{ResultWord}
 use Rattle.pdn_games.specs.Results.{score_of, result_word}
 use Rattle.pdn_games.specs.Tokens.{PlacedToken, TextTokens}
@@ -71,10 +70,6 @@ pub record IsGameWith (tokens : List PlacedToken) (ms : List DMove) (s : Score) 
   pub plays : Plays tokens ms
   pub score : score_in tokens ms ≡ Ok s
 
--- the tokens of the game
-abbrev pub IsGameOf : List PlacedToken → PdnGame → Type 0
-IsGameOf tokens game = IsGameWith tokens game.moves.items game.score
-
 -- all moves are legal, and the result has the fault
 pub record EndFails (tokens : List PlacedToken) (f : PdnFault) : Type 0 where
   pub moves : List DMove
@@ -101,10 +96,6 @@ Fails tokens fault.ResultDiffers = EndFails tokens fault.ResultDiffers
 -- the text is the text of a game with these moves and this score
 abbrev pub IsTextWith : List ℕ → List DMove → Score → Type 0
 IsTextWith text ms score = (tokens : List PlacedToken) × AreTokens text tokens × IsGameWith tokens ms score
-
--- the text is the text of the game
-abbrev pub IsTextOf : List ℕ → PdnGame → Type 0
-IsTextOf text game = IsTextWith text game.moves.items game.score
 
 -- a well-formed text whose tokens have the fault
 abbrev pub TextFails : List ℕ → PdnFault → Type 0

@@ -1,7 +1,7 @@
 //! Lookup of tags and results among the tokens of a text.
 ghost use Rattle.std.specs.Prelude.{◌≡◌, MatchOption, Some, None};
 ghost use Rattle.pdn_games.specs.Contents.{value_in, first_tag, word_or, result_in, is_other, is_other_type};
-ghost use Rattle.pdn_games.specs.TokenValues.{token_of, all_placed};
+ghost use Rattle.pdn_games.specs.internal.TokenValues.{token_of, all_placed};
 
 use crate::results::ResultWord;
 use crate::tokens::{PlacedToken, Token};

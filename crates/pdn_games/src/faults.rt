@@ -1,7 +1,7 @@
 //! The errors of the reader of games.
 
 ghost use Rattle.std.specs.Prelude.{◌≡◌};
-ghost use Rattle.pdn_games.specs.Causes.{cause_number};
+ghost use Rattle.pdn_games.specs.internal.Causes.{cause_number};
 
 use draughts_moves::{Illegal, Memory};
 use std::alloc::{AllocError, AllocFailed};
@@ -44,7 +44,7 @@ fn cause_number(cause: Illegal) -> u8
 
 impl fmt::Display for PdnFault {
     ghost use Rattle.std.specs.Prelude.{Some};
-    ghost use Rattle.pdn_games.specs.FaultText.{fault_text};
+    ghost use Rattle.pdn_games.specs.internal.FaultText.{fault_text};
 
     ghost output = { λ fault. Some (fault_text fault) };
 

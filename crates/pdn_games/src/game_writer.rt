@@ -25,8 +25,9 @@ pub struct GameWriter {
 }
 
 impl GameWriter {
-    ghost use Rattle.pdn_games.specs.Writer.{tags_text, HasWritten, MayFollow, AddsMove, BeginsMove, StandsStill};
-    ghost use Rattle.pdn_games.specs.Writer.{Finishes, BeginsEnd};
+    ghost use Rattle.pdn_games.specs.internal.Writer.{tags_text, HasWritten, MayFollow, AddsMove, BeginsMove};
+    ghost use Rattle.pdn_games.specs.internal.Writer.{StandsStill};
+    ghost use Rattle.pdn_games.specs.internal.Writer.{Finishes, BeginsEnd};
 
     /// Writes the tags of a game.
     ///

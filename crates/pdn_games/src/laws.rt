@@ -1,10 +1,10 @@
 //! Theorems about the reader and the writers of this crate, for use by other crates.
-ghost use Rattle.pdn_games.specs.BackLaws.{WrittenIsRead};
-ghost use Rattle.pdn_games.specs.Longest.{MovesAreLongest};
-ghost use Rattle.pdn_games.specs.ReadingLaws.{TextsAreOfOne, TextsOfGamesAreRead};
-ghost use Rattle.pdn_games.specs.SkipGrammar.{SkipsFollowGrammar};
-ghost use Rattle.pdn_games.specs.TagGrammar.{TagsFollowGrammar};
-ghost use Rattle.pdn_games.specs.Writer.{TagsBeginGames, MovesBeginGames};
+ghost use Rattle.pdn_games.specs.internal.BackLaws.{WrittenIsRead};
+ghost use Rattle.pdn_games.specs.internal.Longest.{MovesAreLongest};
+ghost use Rattle.pdn_games.specs.internal.ReadingLaws.{TextsAreOfOne, TextsOfGamesAreRead};
+ghost use Rattle.pdn_games.specs.internal.SkipGrammar.{SkipsFollowGrammar};
+ghost use Rattle.pdn_games.specs.internal.TagGrammar.{TagsFollowGrammar};
+ghost use Rattle.pdn_games.specs.internal.Writer.{TagsBeginGames, MovesBeginGames};
 
 use pdn::laws::reads_one_move;
 

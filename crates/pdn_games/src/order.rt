@@ -3,7 +3,7 @@ ghost use Rattle.std.specs.Prelude.{◌≡◌};
 ghost use Rattle.pdn_games.specs.declared.order.GameStage.TheVariants as part;
 ghost use Rattle.pdn_games.specs.Order.{after_tag, after_move, after_result, next, first_stray, or_else, missing};
 ghost use Rattle.pdn_games.specs.Order.{bad_at};
-ghost use Rattle.pdn_games.specs.TokenValues.{token_of, all_placed};
+ghost use Rattle.pdn_games.specs.internal.TokenValues.{token_of, all_placed};
 
 use crate::tokens::{PlacedToken, Token};
 

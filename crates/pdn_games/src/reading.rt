@@ -5,9 +5,10 @@ ghost use Rattle.squares.specs.DraughtsSamePosition.{same_position};
 ghost use Rattle.pdn.specs.ReadFen.{IsFen};
 ghost use Rattle.pdn_games.specs.Contents.{first_tag, is_other_type, move_texts, HasOpening};
 ghost use Rattle.pdn_games.specs.Moves.{MeanAll};
-ghost use Rattle.pdn_games.specs.Reading.{tag_score, IsOfClub, IsGameOf, Fails, IsTextOf, IsRefused};
-ghost use Rattle.pdn_games.specs.Replaying.{HaveForms, IsConsistent};
-ghost use Rattle.pdn_games.specs.TokenValues.{all_placed};
+ghost use Rattle.pdn_games.specs.Reading.{tag_score, IsOfClub, Fails, IsRefused};
+ghost use Rattle.pdn_games.specs.internal.Reading.{IsGameOf, IsTextOf};
+ghost use Rattle.pdn_games.specs.internal.Replaying.{HaveForms, IsConsistent};
+ghost use Rattle.pdn_games.specs.internal.TokenValues.{all_placed};
 
 use crate::contents::{first_tag, is_other_type, result_in};
 use crate::ending::{parse_score, score_by_rules, score_of_result, settle};

@@ -5,11 +5,13 @@ ghost use Rattle.draughts_moves.specs.Legal.{Legal};
 ghost use Rattle.draughts_draws.specs.Ends.{end_of};
 ghost use Rattle.pdn.specs.ReadMove.{IsRead, HasReadFault};
 ghost use Rattle.pdn_games.specs.Contents.{move_texts};
-ghost use Rattle.pdn_games.specs.Moves.{MeanAll, RefusesMoves};
-ghost use Rattle.pdn_games.specs.Replaying.{IsMoveForm, HasItsForm, HaveForms, IsConsistent, GrowsBy, GrowsWith};
-ghost use Rattle.pdn_games.specs.Replaying.{RefusesText};
-ghost use Rattle.pdn_games.specs.Replaying.{RefusesIn, at_ply, fault_of};
-ghost use Rattle.pdn_games.specs.TokenValues.{token_of, all_placed};
+ghost use Rattle.pdn_games.specs.Moves.{MeanAll};
+ghost use Rattle.pdn_games.specs.internal.Moves.{RefusesMoves};
+ghost use Rattle.pdn_games.specs.internal.Replaying.{IsMoveForm, HasItsForm, HaveForms, IsConsistent, GrowsBy};
+ghost use Rattle.pdn_games.specs.internal.Replaying.{GrowsWith};
+ghost use Rattle.pdn_games.specs.internal.Replaying.{RefusesText};
+ghost use Rattle.pdn_games.specs.internal.Replaying.{RefusesIn, at_ply, fault_of};
+ghost use Rattle.pdn_games.specs.internal.TokenValues.{token_of, all_placed};
 
 use crate::faults::PdnFault;
 use crate::tokens::{PlacedToken, Token};

@@ -3,8 +3,8 @@ ghost use Rattle.std.specs.Prelude.{◌≡◌, ◌≤◌, ◌<◌, IfOk, IfSome,
 ghost use Rattle.pdn_games.specs.Results as results;
 ghost use Rattle.pdn_games.specs.Tokens.{word_len, longest, token_front, front_with, front_at, begins_feed};
 ghost use Rattle.pdn_games.specs.Tokens.{lets_follow, TextTokens};
-ghost use Rattle.pdn_games.specs.TokenFronts.{front_of, IsShorter};
-ghost use Rattle.pdn_games.specs.TokenValues.{token_of, all_placed};
+ghost use Rattle.pdn_games.specs.internal.TokenFronts.{front_of, IsShorter};
+ghost use Rattle.pdn_games.specs.internal.TokenValues.{token_of, all_placed};
 
 use crate::lengths::{move_len, number_len, skip_bytes};
 use crate::results::{ResultWord, result_at};

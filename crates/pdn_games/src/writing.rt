@@ -3,7 +3,7 @@ ghost use Rattle.std.specs.Prelude.{◌≡◌, ◌<◌, ◌+◌, ◌++◌, OnOk,
 ghost use Rattle.draughts_moves.specs.Legal.{Legal};
 ghost use Rattle.pdn.specs.MoveValue.{move_text};
 ghost use Rattle.pdn_games.specs.Writing.{tag_line, two_digits, date_text, result_text, ply_text, end_text};
-ghost use Rattle.pdn_games.specs.Writer.{tags_text};
+ghost use Rattle.pdn_games.specs.internal.Writer.{tags_text};
 
 use crate::head::PdnHead;
 use clocks::CivilTime;

@@ -4,7 +4,7 @@ use Rattle.std.proofs.Common.{zero, suc, ◌-◌, ◌<◌, ◌≤◌, take, get_
 use Rattle.std.proofs.lemmas.List.{take_more, take_all}
 use Rattle.std.specs.Prelude.{IfOk}
 use Rattle.std.specs.declared.cmp.Ordering.{Ordering}
-use Rattle.perft.specs.Lines.{AddUp, AreTheMoves, HasLines, IsTheCount, count_line, AreLines}
+use Rattle.perft.specs.internal.Lines.{AddUp, AreTheMoves, HasLines, IsTheCount, count_line, AreLines}
 
 -- one more move with its count
 pub AddUp-more : {M : Type 0} (counted : M → ℕ → Type 0) (moves : List M) (m : M) (total count : ℕ)

@@ -2,7 +2,7 @@
 
 ghost use Rattle.std.specs.Prelude.{◌≡◌, ◌+◌, IfOk, OnOk};
 ghost use Rattle.std.specs.Io.KnownBytes.{Appends};
-ghost use Rattle.perft.specs.Lines.{HasLines, IsPrinted, count_line, total_line};
+ghost use Rattle.perft.specs.internal.Lines.{HasLines, IsPrinted, count_line, total_line};
 
 use crate::fault::PerftFault;
 use crate::game::Game;

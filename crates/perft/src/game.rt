@@ -2,7 +2,7 @@
 
 ghost use Rattle.std.specs.Prelude.{◌≡◌, List, ℕ, IfOk, string_bytes};
 ghost use Rattle.std.specs.declared.cmp.Ordering.{Ordering};
-ghost use Rattle.perft.specs.Lines.{AreTheMoves, IsTheCount};
+ghost use Rattle.perft.specs.internal.Lines.{AreTheMoves, IsTheCount};
 
 use crate::fault::PerftFault;
 use std::alloc::Global;

@@ -1,3 +1,2 @@
-pub mod FaultText
-pub mod PieceLaws
 pub mod Pieces
+pub mod internal

@@ -14,7 +14,7 @@ pub enum WriteFault {
 }
 
 impl fmt::Display for WriteFault {
-    ghost use Rattle.record_writer.specs.FaultText.{fault_text};
+    ghost use Rattle.record_writer.specs.internal.FaultText.{fault_text};
 
     ghost output = { fault_text };
 

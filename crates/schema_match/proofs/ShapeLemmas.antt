@@ -5,7 +5,7 @@ use Rattle.sqlite_schema.specs.declared.schema.Schema.{Schema}
 use Rattle.store_tables.specs.declared.names.Version.{Version}
 use Rattle.store_tables.specs.declared.names.Version.TheVariants.{First, Current}
 use Rattle.schema_match.specs.Shapes.{have_both, has_table, is_of_club}
-use Rattle.schema_match.specs.TableVersions.{has_version}
+use Rattle.schema_match.specs.internal.TableVersions.{has_version}
 use Rattle.schema_match.specs.declared.tables.Versions.{Versions}
 use Rattle.store_tables.specs.Tables.{event_rules}
 

@@ -1,4 +1,4 @@
 pub mod Columns
 pub mod Keys
 pub mod Shapes
-pub mod TableVersions
+pub mod internal

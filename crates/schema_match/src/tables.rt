@@ -7,7 +7,7 @@ ghost use Rattle.sqlite_schema.specs.declared.schema.Table as made;
 ghost use Rattle.store_tables.specs.Tables.{event_rules, made_as};
 ghost use Rattle.store_tables.specs.declared.names.Version.{Version};
 ghost use Rattle.schema_match.specs.Shapes as spec;
-ghost use Rattle.schema_match.specs.TableVersions.{has_version};
+ghost use Rattle.schema_match.specs.internal.TableVersions.{has_version};
 
 use crate::columns::{has_columns_as, key_name};
 use crate::keys::has_keys_as;

@@ -11,7 +11,7 @@ use Rattle.shogi_repetition.specs.Faults.{IsPlayed}
 use Rattle.shogi_repetition.specs.Line.{last_position}
 use Rattle.csa.specs.declared.head.CsaEnd.{CsaEnd}
 use Rattle.csa.specs.declared.head.CsaEnd.TheVariants.{Resigned}
-use Rattle.csa.specs.WrittenGame.{FitsEnd, TellsEnd}
+use Rattle.csa.specs.internal.WrittenGame.{FitsEnd, TellsEnd}
 
 pub entries-played : (p : ShogiPosition) (es : List (SMove × ℕ)) (ms : List SMove) → p ≡ opening
     → ms ≡ map (λ e. e.0) es → IsPlayed p ms (length ms) → IsPlayed opening (map (λ e. e.0) es) (length es)

@@ -4,8 +4,8 @@ use Rattle.std.proofs.Common.{true≢false, ap, refl, sym, subst, append_assoc, 
 use Rattle.std.specs.Prelude.{if◌then◌else◌, is_ok, is_err}
 use Rattle.std.proofs.KnownBytes.{Consumes-trans}
 use Rattle.std.specs.Io.KnownBytes.{Consumes}
-use Rattle.http_head.specs.Intake.{HasTaken}
-use Rattle.control_socket.specs.Received.{HasReceived}
+use Rattle.http_head.specs.internal.Intake.{HasTaken}
+use Rattle.control_socket.specs.internal.Received.{HasReceived}
 
 -- a call that did not fail added the piece
 was_added : {A F : Type 0} (result : Result A F) (old new piece : List ℕ)

@@ -1,5 +1,4 @@
 pub mod Acknowledged
-pub mod LogLine
-pub mod Outgoing
 pub mod Serving
 pub mod Visits
+pub mod internal

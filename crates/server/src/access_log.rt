@@ -7,11 +7,12 @@ ghost use Rattle.std.specs.Char.{is_ascii_graphic};
 ghost use Rattle.std.specs.List.{list_all};
 ghost use Rattle.http_head.specs.Request.{ParseState as SeenIn, Sees};
 ghost use Rattle.http_desk.specs.Paths.{path_of};
-ghost use Rattle.server.specs.LogLine.{IsCallLine, IsLineOf, fault_line_written, fault_written, line_written};
-ghost use Rattle.server.specs.LogLine.{IsLeftOut, IsLogged, IsNoted};
-ghost use Rattle.server.specs.LogLine.{caller_written, method_limit, method_written, or_mark, path_written, shown};
-ghost use Rattle.server.specs.LogLine.{left_out_written};
-ghost use Rattle.server.specs.LogLine.{command_word, import_word, order_line_written, order_status, word_of};
+ghost use Rattle.server.specs.internal.LogLine.{IsCallLine, IsLineOf, fault_line_written, fault_written, line_written};
+ghost use Rattle.server.specs.internal.LogLine.{IsLeftOut, IsLogged, IsNoted};
+ghost use Rattle.server.specs.internal.LogLine.{caller_written, method_limit, method_written, or_mark, path_written};
+ghost use Rattle.server.specs.internal.LogLine.{shown};
+ghost use Rattle.server.specs.internal.LogLine.{left_out_written};
+ghost use Rattle.server.specs.internal.LogLine.{command_word, import_word, order_line_written, order_status, word_of};
 
 use crate::serve::Exchange;
 use clocks::Moment;

@@ -1,7 +1,7 @@
 //! A client: its socket, and the part of its request that was received.
 
 ghost use Rattle.std.specs.Prelude.{◌≢◌};
-ghost use Rattle.control_socket.specs.Received.{HasReceived};
+ghost use Rattle.control_socket.specs.internal.Received.{HasReceived};
 ghost use Rattle.server.specs.declared.request_buffer.ReadProgress.TheVariants as progress_is;
 
 use crate::deadline::{Countdown, Deadline};

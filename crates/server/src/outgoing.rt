@@ -4,7 +4,7 @@
 //! later, so no client is waited for.
 
 ghost use Rattle.std.specs.Prelude.{◌≡◌, ◌≤◌, length};
-ghost use Rattle.server.specs.Outgoing.{StaysInOrder};
+ghost use Rattle.server.specs.internal.Outgoing.{StaysInOrder};
 ghost use Rattle.server.specs.declared.outgoing.SendProgress.TheVariants as progress_is;
 
 use std::io::{ErrorKind, Write};

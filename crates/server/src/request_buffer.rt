@@ -1,7 +1,7 @@
 //! The bytes of a request that were received so far.
 
 ghost use Rattle.std.specs.Prelude.{◌≡◌, ◌≢◌, []};
-ghost use Rattle.control_socket.specs.Received.{HasReceived};
+ghost use Rattle.control_socket.specs.internal.Received.{HasReceived};
 ghost use Rattle.server.specs.declared.request_buffer.ReadProgress.TheVariants as progress_is;
 
 use http_head::{ParseState, is_interrupted, read_request};

@@ -6,11 +6,13 @@ use Rattle.std.specs.Ordering.{nat_cmp}
 use Rattle.std.specs.Cmp.{nat_cmp_total, unsigned_tied}
 use Rattle.std.specs.FinMap as map
 use Rattle.std.specs.FinMap.{nat_cmp-IsAntisymmetric}
-use Rattle.squares.specs.DraughtsMarks.{nat_eq_same, nat_eq_other}
+use Rattle.squares.specs.internal.DraughtsMarks.{nat_eq_same, nat_eq_other}
 use Rattle.squares.specs.declared.shogi.piece.SPiece.{SPiece}
 use Rattle.squares.specs.ShogiBoard.{ShogiBoard}
-use Rattle.squares.specs.ShogiGeometry.{OnShogiBoard, shogi_number, file_of, rank_of}
-use Rattle.sfen.specs.SfenGrammar.{IsOnSquares, cells_from, empty_cells}
+use Rattle.squares.specs.ShogiGeometry.{shogi_number, file_of, rank_of}
+use Rattle.squares.specs.internal.ShogiGeometry.{OnShogiBoard}
+use Rattle.sfen.specs.SfenGrammar.{cells_from}
+use Rattle.sfen.specs.internal.SfenGrammar.{IsOnSquares, empty_cells}
 
 -- Where a rank has so many files left, a square is passed or is ahead: squares in their order have rising numbers.
 abbrev Passed : ℕ → ℕ → ℕ → ℕ → Type 0

@@ -14,7 +14,8 @@ use Rattle.squares.specs.declared.shogi.piece.Role.{Role}
 use Rattle.squares.specs.declared.shogi.piece.Role.TheVariants as role
 use Rattle.squares.specs.declared.shogi.piece.SPiece.{SPiece}
 use Rattle.squares.specs.ShogiBoard.{ShogiBoard}
-use Rattle.squares.specs.ShogiGeometry.{OnShogiBoard, shogi_number}
+use Rattle.squares.specs.ShogiGeometry.{shogi_number}
+use Rattle.squares.specs.internal.ShogiGeometry.{OnShogiBoard}
 use Rattle.squares.specs.ShogiPieces.{kind_of, demoted, hand_kind, promotes_to, on_board as kind_on_board}
 use Rattle.sfen.specs.declared.signs.Sign.{Sign}
 use Rattle.sfen.specs.declared.signs.Sign.TheVariants.{Zero, Digit, Piece, Plus, Slash, Blank}
@@ -24,12 +25,15 @@ use Rattle.sfen.specs.declared.places.SfenState.TheVariants.{NoHands, Number, Di
 use Rattle.sfen.specs.declared.places.Action.{Action}
 use Rattle.sfen.specs.declared.places.Action.TheVariants.{Pass, Put, Hold}
 use Rattle.sfen.specs.Letters.{letter, piece_text, turn_letter}
-use Rattle.sfen.specs.Signs.{sign_of}
-use Rattle.sfen.specs.Places.{on_board, put_at, placed, promoted, hold, at_item, one_more, next, number_at_end, IsSane}
-use Rattle.sfen.specs.Reading.{if_some, run}
-use Rattle.sfen.specs.SfenGrammar.{RankItem, Gap, Stands, AreRankItems, AreRanks, cells_from, HeldItem, IsCountText}
-use Rattle.sfen.specs.SfenGrammar.{unwritten, one_digit, two_digits, IsHeldText, AreHeldTexts, IsHandText, IsNumberText}
-use Rattle.sfen.specs.SfenGrammar.{AreDigits, digit_texts, value_after, SfenForm, HasSfenForm}
+use Rattle.sfen.specs.internal.Signs.{sign_of}
+use Rattle.sfen.specs.internal.Places.{on_board, put_at, placed, promoted, hold, at_item, one_more, next}
+use Rattle.sfen.specs.internal.Places.{number_at_end, IsSane}
+use Rattle.sfen.specs.internal.Reading.{if_some, run}
+use Rattle.sfen.specs.SfenGrammar.{cells_from}
+use Rattle.sfen.specs.internal.SfenGrammar.{RankItem, Gap, Stands, AreRankItems, AreRanks, HeldItem, IsCountText}
+use Rattle.sfen.specs.internal.SfenGrammar.{unwritten, one_digit, two_digits, IsHeldText, AreHeldTexts, IsHandText}
+use Rattle.sfen.specs.internal.SfenGrammar.{IsNumberText}
+use Rattle.sfen.specs.internal.SfenGrammar.{AreDigits, digit_texts, value_after, SfenForm, HasSfenForm}
 use Rattle.sfen.proofs.BoardLemmas.{Keeps, Fresh, at, fresh-on, fresh-put, fresh-nothing, keeps-on, keeps-put}
 use Rattle.sfen.proofs.BoardLemmas.{keeps-gap, keeps-empty, keeps-whole, gap-cells, piece-cells}
 use Rattle.sfen.proofs.Stages.{run-after, Stage, on, moved, moved_by, grow, start, form_of}

@@ -4,9 +4,9 @@ use Rattle.std.proofs.Common.{◌∷◌, ◌++◌, inl, inr, drop, Option, refl,
 use Rattle.sfen.specs.declared.places.SfenState.{SfenState}
 use Rattle.sfen.specs.declared.places.Action.{Action}
 use Rattle.sfen.specs.declared.reading.Reading.{Reading}
-use Rattle.sfen.specs.Signs.{sign_of}
-use Rattle.sfen.specs.Places.{IsSane, next, number_at_end}
-use Rattle.sfen.specs.Reading.{act, follow, take_byte, run, beginning, StopsAt, if_some}
+use Rattle.sfen.specs.internal.Signs.{sign_of}
+use Rattle.sfen.specs.internal.Places.{IsSane, next, number_at_end}
+use Rattle.sfen.specs.internal.Reading.{act, follow, take_byte, run, beginning, StopsAt, if_some}
 use Rattle.sfen.proofs.SoundLemmas.{IfStep, Leads, sane-next, form-of, sound, moved-place}
 use Rattle.sfen.proofs.Stages.{run-more, run-after, run-none, Stage, moved, moved_by, grow, start, form_of, seen}
 use Rattle.sfen.proofs.Stages.{seen-run, small-set, tally-count}
@@ -18,9 +18,11 @@ use Rattle.squares.specs.declared.sides.Side.{Side}
 use Rattle.squares.specs.declared.sides.Side.TheVariants.{First, Second}
 use Rattle.squares.specs.declared.shogi.piece.HandKind.{HandKind}
 use Rattle.squares.specs.ShogiHands.{count_of, hand_of}
-use Rattle.squares.specs.ShogiSets.{ShogiPosition, IsShogiPosition, HasKings, KeepsSets, in_play, set_size}
-use Rattle.sfen.specs.SfenGrammar.{SfenForm, HasSfenForm, HasNoForm, BeginsSfen, IsLongestBeginning, IsSfenText}
-use Rattle.sfen.specs.SfenGrammar.{AreHands, held_total, HasTooMany, HeldItem, IsRefused}
+use Rattle.squares.specs.ShogiSets.{ShogiPosition}
+use Rattle.squares.specs.internal.ShogiSets.{IsShogiPosition, HasKings, KeepsSets, in_play, set_size}
+use Rattle.sfen.specs.internal.SfenGrammar.{SfenForm, HasSfenForm, HasNoForm, BeginsSfen, IsLongestBeginning}
+use Rattle.sfen.specs.internal.SfenGrammar.{IsSfenText}
+use Rattle.sfen.specs.internal.SfenGrammar.{AreHands, held_total, HasTooMany, HeldItem, IsRefused}
 use Rattle.sfen.proofs.BoardLemmas.{fresh-nothing}
 use Rattle.sfen.proofs.CompleteLemmas.{complete, closes}
 use Rattle.squares.specs.declared.shogi.piece.HandKind.TheVariants as in_hand

@@ -2,7 +2,7 @@
 use Rattle.std.proofs.Common.{◌≡◌, ℕ, ◌+◌, ◌-◌, ◌≤◌, ◌&&◌, nat_eq, nat_le, Option, Some, None, refl, ap, ◌∙◌, arith}
 use Rattle.std.proofs.lemmas.Bool.{cond_both, cond-true, cond-false}
 use Rattle.std.proofs.lemmas.Bool.Decides.{nat_tests}
-use Rattle.squares.specs.DraughtsMarks.{nat_eq-same}
+use Rattle.squares.specs.internal.DraughtsMarks.{nat_eq-same}
 use Rattle.squares.specs.declared.sides.Side.{Side}
 use Rattle.squares.specs.declared.sides.Side.TheVariants.{First, Second}
 use Rattle.squares.specs.declared.shogi.piece.Kind.{Kind}
@@ -10,7 +10,7 @@ use Rattle.squares.specs.declared.shogi.piece.Kind.TheVariants as kind
 use Rattle.sfen.specs.declared.signs.Sign.{Sign}
 use Rattle.sfen.specs.declared.signs.Sign.TheVariants.{Zero, Digit, Piece, White, Plus, Minus, Slash, Blank, Other}
 use Rattle.sfen.specs.Letters.{capital, letter}
-use Rattle.sfen.specs.Signs.{capital_kind, piece_sign, sign_of}
+use Rattle.sfen.specs.internal.Signs.{capital_kind, piece_sign, sign_of}
 
 -- the byte of a sign
 abbrev pub IsSign : Sign → ℕ → Type 0

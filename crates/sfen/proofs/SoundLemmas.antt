@@ -5,21 +5,26 @@ use Rattle.std.proofs.Common.{nat_le}
 use Rattle.std.proofs.Common.{nat_lt, ◌&&◌, Option}
 use Rattle.std.proofs.lemmas.Bool.Decides.{nat_tests}
 use Rattle.squares.specs.declared.shogi.piece.SPiece.{SPiece}
-use Rattle.squares.specs.ShogiGeometry.{shogi_number, OnShogiBoard}
+use Rattle.squares.specs.ShogiGeometry.{shogi_number}
+use Rattle.squares.specs.internal.ShogiGeometry.{OnShogiBoard}
 use Rattle.sfen.specs.declared.places.SfenState.{SfenState}
 use Rattle.sfen.specs.declared.places.SfenState.TheVariants.{Rank, Promoted, Turn, AfterTurn, Hands, Held, AfterZero}
 use Rattle.sfen.specs.declared.places.SfenState.TheVariants.{OneDigit, TwoDigits, NoHands, Number, Digits}
 use Rattle.sfen.specs.declared.places.Action.{Action}
 use Rattle.sfen.specs.declared.places.Action.TheVariants.{Put, Pass, Move, Hold}
-use Rattle.sfen.specs.Places.{Step, on_board, put_at, placed, IsSane, in_rank, promoted, hold, at_item, one_more, next}
-use Rattle.sfen.specs.Places.{number_at_end}
+use Rattle.sfen.specs.internal.Places.{Step, on_board, put_at, placed, IsSane, in_rank, promoted, hold, at_item}
+use Rattle.sfen.specs.internal.Places.{one_more, next}
+use Rattle.sfen.specs.internal.Places.{number_at_end}
 use Rattle.squares.specs.declared.sides.Side.{Side}
 use Rattle.squares.specs.ShogiBoard.{ShogiBoard}
 use Rattle.sfen.specs.Letters.{turn_letter, letter, piece_text}
-use Rattle.sfen.specs.SfenGrammar.{RankItem, AreRankItems, IsRankText, AreRanks, IsOnSquares, cells_from, HeldItem}
-use Rattle.sfen.specs.SfenGrammar.{AreHeldTexts, IsHandText, IsNumberText, IsDecimalText, AreDigits, digit_texts}
-use Rattle.sfen.specs.SfenGrammar.{value_after, SfenForm, HasSfenForm, Gap, Stands, IsCountText, unwritten, one_digit}
-use Rattle.sfen.specs.SfenGrammar.{two_digits}
+use Rattle.sfen.specs.SfenGrammar.{cells_from}
+use Rattle.sfen.specs.internal.SfenGrammar.{RankItem, AreRankItems, IsRankText, AreRanks, IsOnSquares, HeldItem}
+use Rattle.sfen.specs.internal.SfenGrammar.{AreHeldTexts, IsHandText, IsNumberText, IsDecimalText, AreDigits}
+use Rattle.sfen.specs.internal.SfenGrammar.{digit_texts}
+use Rattle.sfen.specs.internal.SfenGrammar.{value_after, SfenForm, HasSfenForm, Gap, Stands, IsCountText, unwritten}
+use Rattle.sfen.specs.internal.SfenGrammar.{one_digit}
+use Rattle.sfen.specs.internal.SfenGrammar.{two_digits}
 use Rattle.sfen.proofs.BoardLemmas.{Keeps, Fresh, fresh-on, fresh-nothing, fresh-put, keeps-on, keeps-unput, stands-put}
 use Rattle.sfen.proofs.BoardLemmas.{none-gap, keeps-itself, cells-gap, cells-piece}
 use Rattle.sfen.proofs.Stages.{Stage, start, on, moved, moved_by, grow, form_of}
@@ -33,8 +38,8 @@ use Rattle.squares.specs.declared.shogi.piece.Role.{Role}
 use Rattle.squares.specs.ShogiPieces.{demoted, hand_kind, promotes_to, on_board as kind_on_board}
 use Rattle.sfen.specs.declared.signs.Sign.{Sign}
 use Rattle.sfen.specs.declared.signs.Sign.TheVariants.{Zero, Digit, Piece, White, Plus, Minus, Slash, Blank}
-use Rattle.sfen.specs.Signs.{sign_of}
-use Rattle.sfen.specs.Reading.{if_some, run}
+use Rattle.sfen.specs.internal.Signs.{sign_of}
+use Rattle.sfen.specs.internal.Reading.{if_some, run}
 use Rattle.sfen.proofs.SignLemmas.{IsSign, sign-is}
 
 -- what holds of a step, if there is one

@@ -2,7 +2,7 @@
 use Rattle.std.proofs.Common.{◌≡◌, ℕ, ◌+◌, ◌<◌, List, [], ◌∷◌, ◌++◌, length, take, get_or, Option, Some, None, refl}
 use Rattle.std.proofs.Common.{sym, ap, ◌∙◌, ◌≤◌, Bool, true, false, cond, ◌&&◌, subst, lit≤, arith}
 use Rattle.std.proofs.lemmas.List.{take_more}
-use Rattle.sfen.specs.Reading.{if_some, run, holding, act, follow, take_byte, no_pieces, with_more}
+use Rattle.sfen.specs.internal.Reading.{if_some, run, holding, act, follow, take_byte, no_pieces, with_more}
 use Rattle.std.specs.Prelude.{option_map, min}
 use Rattle.std.specs.FinMap as map
 use Rattle.squares.specs.declared.sides.Side.{Side}
@@ -14,15 +14,15 @@ use Rattle.sfen.specs.declared.places.SfenState.TheVariants.{Rank}
 use Rattle.sfen.specs.declared.places.Action.{Action}
 use Rattle.sfen.specs.declared.places.Action.TheVariants.{Pass, Put, Move, Hold}
 use Rattle.sfen.specs.declared.reading.Reading.{Reading}
-use Rattle.sfen.specs.SfenGrammar.{HeldItem, SfenForm, same_hand_kind, held_total}
-use Rattle.sfen.specs.Signs.{sign_of}
-use Rattle.sfen.specs.Places.{Step, next}
+use Rattle.sfen.specs.internal.SfenGrammar.{HeldItem, SfenForm, same_hand_kind, held_total}
+use Rattle.sfen.specs.internal.Signs.{sign_of}
+use Rattle.sfen.specs.internal.Places.{Step, next}
 use Rattle.squares.specs.declared.shogi.piece.HandKind.{HandKind}
 use Rattle.squares.specs.declared.shogi.piece.HandKind.TheVariants as in_hand
 use Rattle.squares.specs.declared.shogi.hand.Hand.{Hand}
 use Rattle.squares.specs.Sides.{same_side}
 use Rattle.squares.specs.ShogiHands.{count_of, hand_of}
-use Rattle.squares.specs.ShogiSets.{set_size}
+use Rattle.squares.specs.internal.ShogiSets.{set_size}
 
 -- a text in two parts
 pub run-append : {S : Type 0} (step : S → ℕ → Option S) (a : List ℕ) (s : S) (b : List ℕ)

@@ -13,7 +13,8 @@ use Rattle.squares.specs.declared.shogi.moves.SMove.TheVariants.{Step, Drop}
 use Rattle.squares.specs.ShogiGeometry.{shogi_number, file_of, rank_of}
 use Rattle.squares.specs.ShogiPieces.{on_board}
 use Rattle.sfen.specs.Letters.{capital}
-use Rattle.sfen.specs.UsiText.{usi_text, IsOnBoard, IsUsiText, BeginsUsi, IsLongestUsiBeginning, IsNoUsi}
+use Rattle.sfen.specs.UsiText.{usi_text}
+use Rattle.sfen.specs.internal.UsiText.{IsOnBoard, IsUsiText, BeginsUsi, IsLongestUsiBeginning, IsNoUsi}
 use Rattle.sfen.proofs.UsiTextLemmas.{square-bytes, is_file-text, is_rank-text, kind_reading-text, kind_reading-sound}
 use Rattle.sfen.proofs.UsiTextLemmas.{usi_reading-sound, text-read}
 

@@ -9,7 +9,8 @@ use Rattle.squares.specs.declared.shogi.moves.SMove.TheVariants.{Step, Drop}
 use Rattle.squares.specs.ShogiGeometry.{shogi_number, file_of, rank_of}
 use Rattle.squares.specs.ShogiPieces.{on_board}
 use Rattle.sfen.specs.Letters.{capital}
-use Rattle.sfen.specs.UsiText.{square_text, promotion_text, usi_text, IsOnBoard, IsUsiText}
+use Rattle.sfen.specs.UsiText.{square_text, promotion_text, usi_text}
+use Rattle.sfen.specs.internal.UsiText.{IsOnBoard, IsUsiText}
 use Rattle.sfen.specs.UsiReading.{is_file, is_rank, square_reading, kind_reading, step_of, drop_of, usi_reading}
 
 -- the bytes of a square

@@ -12,12 +12,16 @@ use Rattle.squares.specs.ShogiBoard.{ShogiBoard}
 use Rattle.squares.specs.ShogiGeometry.{shogi_number}
 use Rattle.squares.specs.ShogiHands.{count_of, hand_of}
 use Rattle.sfen.specs.Letters.{piece_text, letter, turn_letter}
-use Rattle.sfen.specs.SfenGrammar.{cells_from, AreDigits, digit_texts, value_after, IsDecimalText, IsNumberText}
-use Rattle.sfen.specs.SfenGrammar.{IsCountText, one_digit, two_digits, HeldItem, unwritten, AreHeldTexts, IsHandText}
-use Rattle.sfen.specs.SfenGrammar.{same_hand_kind, held_total, AreHands, RankItem, Gap, Stands, empty_cells}
-use Rattle.sfen.specs.SfenGrammar.{AreRankItems, IsRankText, rank_cells, AreRanks, IsOnSquares, IsBoardText, IsSfenText}
+use Rattle.sfen.specs.SfenGrammar.{cells_from}
+use Rattle.sfen.specs.internal.SfenGrammar.{AreDigits, digit_texts, value_after, IsDecimalText, IsNumberText}
+use Rattle.sfen.specs.internal.SfenGrammar.{IsCountText, one_digit, two_digits, HeldItem, unwritten, AreHeldTexts}
+use Rattle.sfen.specs.internal.SfenGrammar.{IsHandText}
+use Rattle.sfen.specs.internal.SfenGrammar.{same_hand_kind, held_total, AreHands, RankItem, Gap, Stands, empty_cells}
+use Rattle.sfen.specs.SfenGrammar.{rank_cells}
+use Rattle.sfen.specs.internal.SfenGrammar.{AreRankItems, IsRankText, AreRanks, IsOnSquares, IsBoardText, IsSfenText}
 use Rattle.sfen.specs.SfenText.{gap_text, cells_text, rank_text, more_ranks, held_text, kinds_text, or_hyphen}
-use Rattle.sfen.specs.SfenText.{hand_kinds, hands_text, board_text, position_text, sfen_text}
+use Rattle.sfen.specs.SfenText.{hand_kinds, hands_text, board_text, position_text}
+use Rattle.sfen.specs.internal.SfenText.{sfen_text}
 use Rattle.std.specs.Fmt.{decimal}
 use Rattle.std.proofs.lemmas.Bool.{cases_lt}
 use Rattle.std.proofs.lemmas.Fmt.{decimal_digit, decimal_step, decimal_by_steps}
@@ -26,8 +30,9 @@ use Rattle.squares.specs.declared.shogi.piece.HandKind.TheVariants as in_hand
 use Rattle.squares.specs.declared.shogi.hand.Hands.{Hands}
 use Rattle.squares.specs.Sides.{same_side}
 use Rattle.squares.specs.ShogiPieces.{on_board}
-use Rattle.sfen.specs.WritingLaws.{HasGreatestRuns}
-use Rattle.squares.specs.ShogiSets.{ShogiPosition, IsShogiPosition, KeepsSets}
+use Rattle.sfen.specs.internal.WritingLaws.{HasGreatestRuns}
+use Rattle.squares.specs.ShogiSets.{ShogiPosition}
+use Rattle.squares.specs.internal.ShogiSets.{IsShogiPosition, KeepsSets}
 use Rattle.sfen.proofs.Stages.{small-set}
 
 -- the squares of a rank that are still to be written

@@ -1,11 +1,6 @@
-pub mod FaultText
 pub mod Letters
-pub mod Places
-pub mod Reading
-pub mod ReadingLaws
 pub mod SfenGrammar
 pub mod SfenText
-pub mod Signs
 pub mod UsiReading
 pub mod UsiText
-pub mod WritingLaws
+pub mod internal

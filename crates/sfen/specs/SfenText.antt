@@ -68,7 +68,3 @@ hands_text hands = or_hyphen (kinds_text First hands.first hand_kinds ++ kinds_t
 -- the board, the side to move and the hands, separated by spaces
 unfoldable pub position_text : ShogiPosition → List ℕ
 position_text p = board_text p.board ++ (32 ∷ turn_letter p.turn ∷ 32 ∷ hands_text p.hands)
-
--- the text of a position with its move number
-unfoldable pub sfen_text : ShogiPosition → ℕ → List ℕ
-sfen_text p number = position_text p ++ (32 ∷ decimal number)

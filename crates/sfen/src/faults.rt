@@ -16,7 +16,7 @@ pub enum SfenFault {
 
 impl fmt::Display for SfenFault {
     ghost use Rattle.std.specs.Prelude.{Some};
-    ghost use Rattle.sfen.specs.FaultText.{fault_text};
+    ghost use Rattle.sfen.specs.internal.FaultText.{fault_text};
 
     ghost output = { λ fault. Some (fault_text fault) };
 

@@ -1,7 +1,7 @@
 //! The state machine of the SFEN reader: its states, and the transition for each byte.
 ghost use Rattle.std.specs.Prelude.{◌≡◌, ◌≤◌, IfSome};
-ghost use Rattle.sfen.specs.Signs.{IsSaneSign};
-ghost use Rattle.sfen.specs.Places as spec;
+ghost use Rattle.sfen.specs.internal.Signs.{IsSaneSign};
+ghost use Rattle.sfen.specs.internal.Places as spec;
 
 use crate::signs::Sign;
 use squares::{HandKind, Kind, Role, SPiece, Side, Ssq};

@@ -1,9 +1,9 @@
 //! Reader of positions as SFEN.
 ghost use Rattle.std.specs.Prelude.{◌≡◌, ◌↔◌, ◌<◌, ◌+◌, IsTrue, IfOk, IfErr, Some, None, true, false};
-ghost use Rattle.sfen.specs.Places.{IsSane};
-ghost use Rattle.sfen.specs.Reading.{holding, act, take_byte, run, beginning, StopsAt, Takes};
-ghost use Rattle.squares.specs.ShogiSets.{in_play, set_size};
-ghost use Rattle.sfen.specs.SfenGrammar.{IsSfenText, IsRefused};
+ghost use Rattle.sfen.specs.internal.Places.{IsSane};
+ghost use Rattle.sfen.specs.internal.Reading.{holding, act, take_byte, run, beginning, StopsAt, Takes};
+ghost use Rattle.squares.specs.internal.ShogiSets.{in_play, set_size};
+ghost use Rattle.sfen.specs.internal.SfenGrammar.{IsSfenText, IsRefused};
 
 use crate::faults::SfenFault;
 use crate::places::{Action, SfenState, next, number_at_end};

@@ -1,6 +1,6 @@
 //! Theorems about the SFEN reader, for use by other crates.
-ghost use Rattle.sfen.specs.ReadingLaws.{IsRefusedOnce, StandsForOne};
-ghost use Rattle.sfen.specs.SfenGrammar.{HasOneForm};
+ghost use Rattle.sfen.specs.internal.ReadingLaws.{IsRefusedOnce, StandsForOne};
+ghost use Rattle.sfen.specs.internal.SfenGrammar.{HasOneForm};
 
 /// The grammar of SFEN is unambiguous: a text has at most one board, side to move, list of pieces in hand and number.
 pub fn has_one_form()

@@ -1,6 +1,6 @@
 //! Classification of the bytes of an SFEN text.
 ghost use Rattle.std.specs.Prelude.{◌≡◌};
-ghost use Rattle.sfen.specs.Signs.{capital_kind, piece_sign, sign_of, IsSaneSign};
+ghost use Rattle.sfen.specs.internal.Signs.{capital_kind, piece_sign, sign_of, IsSaneSign};
 
 use squares::{Kind, Side};
 

@@ -1,6 +1,6 @@
 //! Reader of moves in USI notation.
 ghost use Rattle.std.specs.Prelude.{◌≡◌, ◌≤◌, IfOk, IfErr, length};
-ghost use Rattle.sfen.specs.UsiText.{IsUsiText, IsUsiRefused};
+ghost use Rattle.sfen.specs.internal.UsiText.{IsUsiText, IsUsiRefused};
 ghost use Rattle.sfen.specs.UsiReading.{square_reading, kind_reading, step_of, drop_of, usi_reading, fits, reach};
 ghost use Rattle.sfen.specs.UsiReading.{usi_reach};
 

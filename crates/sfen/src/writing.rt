@@ -1,11 +1,13 @@
 //! Writer of positions as SFEN.
 ghost use Rattle.std.specs.Prelude.{◌≡◌, ◌++◌, ◌≤◌, OnOk, IfOk, string_bytes};
 ghost use Rattle.std.specs.FinMap as map;
-ghost use Rattle.squares.specs.ShogiGeometry.{OnShogiBoard, shogi_number};
+ghost use Rattle.squares.specs.ShogiGeometry.{shogi_number};
+ghost use Rattle.squares.specs.internal.ShogiGeometry.{OnShogiBoard};
 ghost use Rattle.sfen.specs.Letters.{piece_text};
-ghost use Rattle.sfen.specs.SfenGrammar.{IsSfenText};
+ghost use Rattle.sfen.specs.internal.SfenGrammar.{IsSfenText};
 ghost use Rattle.sfen.specs.SfenText.{gap_text, rank_text, board_text, held_text, kinds_text, hand_kinds, hands_text};
-ghost use Rattle.sfen.specs.SfenText.{position_text, sfen_text};
+ghost use Rattle.sfen.specs.SfenText.{position_text};
+ghost use Rattle.sfen.specs.internal.SfenText.{sfen_text};
 
 use crate::letters::{letter, turn_letter};
 use memory::Memory;

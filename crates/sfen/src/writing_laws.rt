@@ -1,6 +1,7 @@
 //! Theorems about the writers and the USI reader, for use by other crates.
-ghost use Rattle.sfen.specs.WritingLaws.{WritesPositions, WritesPositionsAlone, WritesGreatestRuns, ReadsMovesBack};
-ghost use Rattle.sfen.specs.WritingLaws.{ReadsMoveTexts, HasOneMove, HasOneOffset};
+ghost use Rattle.sfen.specs.internal.WritingLaws.{WritesPositions, WritesPositionsAlone, WritesGreatestRuns};
+ghost use Rattle.sfen.specs.internal.WritingLaws.{ReadsMovesBack};
+ghost use Rattle.sfen.specs.internal.WritingLaws.{ReadsMoveTexts, HasOneMove, HasOneOffset};
 
 /// The text written for a position with a move number denotes both.
 pub fn writes_positions()

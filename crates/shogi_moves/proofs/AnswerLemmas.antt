@@ -4,13 +4,15 @@ use Rattle.squares.specs.declared.sides.Side.{Side}
 use Rattle.squares.specs.declared.shogi.moves.SMove.{SMove}
 use Rattle.squares.specs.ShogiBoard.{ShogiBoard}
 use Rattle.squares.specs.ShogiSets.{ShogiPosition}
-use Rattle.squares.specs.TheOnly.{TheOnly, IsTruthOf, only_truth}
+use Rattle.squares.specs.TheOnly.{TheOnly, IsTruthOf}
+use Rattle.squares.specs.internal.TheOnly.{only_truth}
 use Rattle.shogi_moves.specs.Check.{Answer, IsCheck}
-use Rattle.shogi_moves.specs.Computed.{check_of, has_move}
-use Rattle.shogi_moves.specs.Declaring.{CanDeclare, can_declare}
+use Rattle.shogi_moves.specs.internal.Computed.{check_of, has_move}
+use Rattle.shogi_moves.specs.Declaring.{CanDeclare}
+use Rattle.shogi_moves.specs.internal.Declaring.{can_declare}
 use Rattle.shogi_moves.specs.Reach.{KingAttacked}
 use Rattle.shogi_moves.specs.Rules.{HasMove}
-use Rattle.shogi_moves.specs.Search.{king_attacked}
+use Rattle.shogi_moves.specs.internal.Search.{king_attacked}
 use Rattle.shogi_moves.proofs.AttackLemmas.{king_attacked-is}
 use Rattle.shogi_moves.proofs.CheckLemmas.{check_of-legal, check_of-refused}
 use Rattle.shogi_moves.proofs.DeclareLemmas.{can_declare-is}

@@ -8,11 +8,13 @@ use Rattle.squares.specs.declared.sides.Side.{Side}
 use Rattle.squares.specs.declared.shogi.piece.SPiece.{SPiece}
 use Rattle.squares.specs.declared.shogi.piece.Role.{Role}
 use Rattle.squares.specs.declared.shogi.piece.Role.TheVariants as role
-use Rattle.squares.specs.Sides.{other, same_side, same_side-of, same_side-same, same_side-itself}
+use Rattle.squares.specs.Sides.{other, same_side}
+use Rattle.squares.specs.internal.Sides.{same_side-of, same_side-same, same_side-itself}
 use Rattle.squares.specs.ShogiBoard.{ShogiBoard}
-use Rattle.squares.specs.ShogiSets.{holds_king, is_king, ShogiPosition}
+use Rattle.squares.specs.ShogiSets.{is_king, ShogiPosition}
+use Rattle.squares.specs.internal.ShogiSets.{holds_king}
 use Rattle.shogi_moves.specs.Reach.{Reach, Attacked, KingAttacked, king, AllClear}
-use Rattle.shogi_moves.specs.Search.{piece_reaches, side_reaches, attacked, king_attacked_at, king_attacked}
+use Rattle.shogi_moves.specs.internal.Search.{piece_reaches, side_reaches, attacked, king_attacked_at, king_attacked}
 use Rattle.shogi_moves.proofs.ReachLemmas.{piece_reaches-sound, piece_reaches-complete, Reach-on}
 use Rattle.shogi_moves.proofs.TruthLemmas.{standing-is, some_square-is, and-is}
 use Rattle.std.specs.FinMap as map

@@ -7,7 +7,7 @@ use Rattle.squares.specs.ShogiSets.{ShogiPosition}
 use Rattle.shogi_moves.specs.declared.checking.Illegal.{Illegal}
 use Rattle.shogi_moves.specs.declared.checking.Illegal.TheVariants as illegal
 use Rattle.shogi_moves.specs.Rules.{Breaks, Legal, rules_in_order, KeepsAll, FirstBroken}
-use Rattle.shogi_moves.specs.Computed.{broken, first_of, check_of, is_movement}
+use Rattle.shogi_moves.specs.internal.Computed.{broken, first_of, check_of, is_movement}
 use Rattle.shogi_moves.proofs.MateLemmas.{leaves_king-is, mates_by_pawn-is}
 use Rattle.shogi_moves.proofs.RuleLemmas.{is_movement-is, lacks-is, stays-is, drops_dead-is, drops_second_pawn-is}
 use Rattle.shogi_moves.proofs.TruthLemmas.{not-is}

@@ -6,18 +6,23 @@ use Rattle.std.specs.List.{list_any, range_with_len}
 use Rattle.std.specs.FinMap as map
 use Rattle.std.specs.FinSet as set
 use Rattle.std.proofs.lemmas.List.Sums.{sum_by-cons, count_by-le-length}
-use Rattle.masks.specs.Words.{Numbers, passing, ascending}
+use Rattle.masks.specs.Words.{Numbers, passing}
+use Rattle.masks.specs.internal.Words.{ascending}
 use Rattle.squares.specs.declared.sides.Side.{Side}
 use Rattle.squares.specs.declared.shogi.piece.SPiece.{SPiece}
 use Rattle.squares.specs.ShogiBoard.{ShogiBoard}
-use Rattle.squares.specs.ShogiSets.{is_king, holds_king}
-use Rattle.squares.specs.ShogiWords.{is_side}
-use Rattle.shogi_moves.specs.Kings.{AreKings}
+use Rattle.squares.specs.ShogiSets.{is_king}
+use Rattle.squares.specs.internal.ShogiSets.{holds_king}
+use Rattle.squares.specs.internal.ShogiWords.{is_side}
+use Rattle.shogi_moves.specs.internal.Kings.{AreKings}
 use Rattle.shogi_moves.specs.Reach.{king}
-use Rattle.shogi_moves.specs.Search.{all_squares, king_attacked}
-use Rattle.shogi_moves.specs.Declaring.{in_camp, has_entered, cell_points, entered, camp_points, king_entered}
-use Rattle.shogi_moves.specs.Declaring.{king_entered_at, KingEntered, pieces_needed, points_needed, points, can_declare}
-use Rattle.shogi_moves.specs.Declaring.{CanDeclareIs}
+use Rattle.shogi_moves.specs.Search.{all_squares}
+use Rattle.shogi_moves.specs.internal.Search.{king_attacked}
+use Rattle.shogi_moves.specs.Declaring.{in_camp, has_entered, cell_points, entered, camp_points}
+use Rattle.shogi_moves.specs.internal.Declaring.{king_entered}
+use Rattle.shogi_moves.specs.Declaring.{KingEntered, pieces_needed, points_needed, points}
+use Rattle.shogi_moves.specs.internal.Declaring.{king_entered_at, can_declare}
+use Rattle.shogi_moves.specs.internal.Declaring.{CanDeclareIs}
 use Rattle.shogi_moves.proofs.AttackLemmas.{king_attacked-is, holds_king-is}
 use Rattle.shogi_moves.proofs.TruthLemmas.{some_square-is, and-is, not-is, at_most-is}
 use Rattle.shogi_moves.proofs.KingLemmas.{any-passing}

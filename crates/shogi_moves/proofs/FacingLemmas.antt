@@ -14,14 +14,14 @@ use Rattle.squares.specs.declared.shogi.piece.SPiece.{SPiece}
 use Rattle.squares.specs.Sides.{other, same_side}
 use Rattle.squares.specs.ShogiBoard.{ShogiBoard}
 use Rattle.squares.specs.ShogiGeometry.{file_of, rank_of}
-use Rattle.squares.specs.In.{In, list_any-found, list_any-finds}
+use Rattle.squares.specs.internal.In.{In, list_any-found, list_any-finds}
 use Rattle.shogi_moves.specs.declared.heading.MoveDirection.{MoveDirection}
 use Rattle.shogi_moves.specs.declared.heading.MoveDirection.TheVariants.{Forward}
 use Rattle.shogi_moves.proofs.LineLemmas.{line-edge, line-nothing, line-step, Moved, HasAt, line-moved, moved-line}
 use Rattle.shogi_moves.specs.Reach.{step, line, range, AllClear, Attacked}
-use Rattle.shogi_moves.specs.Search.{all_headings, attacked}
-use Rattle.shogi_moves.specs.Facing.{farthest, facing, faced_by, faced, faced_along, seen}
-use Rattle.shogi_moves.specs.Laws.{IsMoved}
+use Rattle.shogi_moves.specs.internal.Search.{all_headings, attacked}
+use Rattle.shogi_moves.specs.internal.Facing.{farthest, facing, faced_by, faced, faced_along, seen}
+use Rattle.shogi_moves.specs.internal.Laws.{IsMoved}
 use Rattle.shogi_moves.proofs.ReachLemmas.{In-all_headings, Reach-on}
 use Rattle.shogi_moves.proofs.AttackLemmas.{attacked-is}
 

@@ -5,7 +5,8 @@ use Rattle.std.specs.List.{list_any, range_with_len}
 use Rattle.std.specs.FinMap as map
 use Rattle.std.specs.FinSet as set
 use Rattle.std.proofs.Math.Bool.{and_comm}
-use Rattle.masks.specs.Words.{Numbers, passing, ascending}
+use Rattle.masks.specs.Words.{Numbers, passing}
+use Rattle.masks.specs.internal.Words.{ascending}
 use Rattle.squares.specs.declared.sides.Side.{Side}
 use Rattle.squares.specs.declared.shogi.piece.SPiece.{SPiece}
 use Rattle.squares.specs.declared.shogi.piece.Role.{Role}
@@ -14,13 +15,15 @@ use Rattle.squares.specs.Sides.{same_side}
 use Rattle.squares.specs.ShogiBoard.{ShogiBoard}
 use Rattle.squares.specs.ShogiGeometry.{file_of}
 use Rattle.squares.specs.ShogiSamePosition.{same_role}
-use Rattle.squares.specs.ShogiWords.{holds}
-use Rattle.squares.specs.ShogiSets.{holds_king, is_king}
+use Rattle.squares.specs.internal.ShogiWords.{holds}
+use Rattle.squares.specs.ShogiSets.{is_king}
+use Rattle.squares.specs.internal.ShogiSets.{holds_king}
 use Rattle.shogi_moves.specs.Reach.{king}
 use Rattle.shogi_moves.specs.Rules.{pawn}
-use Rattle.shogi_moves.specs.Kings.{AreKings}
-use Rattle.shogi_moves.specs.Search.{all_squares, attacked, king_attacked_at, king_attacked}
-use Rattle.shogi_moves.specs.Computed.{is_pawn, holds_pawn, pawn_on_file_at, pawn_on_file}
+use Rattle.shogi_moves.specs.internal.Kings.{AreKings}
+use Rattle.shogi_moves.specs.Search.{all_squares}
+use Rattle.shogi_moves.specs.internal.Search.{attacked, king_attacked_at, king_attacked}
+use Rattle.shogi_moves.specs.internal.Computed.{is_pawn, holds_pawn, pawn_on_file_at, pawn_on_file}
 
 pub any-passing : (k a t : ℕ → Bool) (first count : ℕ) → ((q : ℕ) → t q ≡ k q)
     → list_any (λ q. k q && a q) (range_with_len first count) ≡ list_any a (passing t first count)

@@ -7,14 +7,15 @@ use Rattle.std.specs.FinMap as map
 use Rattle.std.proofs.lemmas.Bool.{lt-ltb}
 use Rattle.squares.specs.declared.sides.Side.{Side}
 use Rattle.squares.specs.ShogiBoard.{ShogiBoard}
-use Rattle.squares.specs.ShogiGeometry.{OnShogiBoard, file_of, rank_of, shogi_number}
+use Rattle.squares.specs.ShogiGeometry.{file_of, rank_of, shogi_number}
+use Rattle.squares.specs.internal.ShogiGeometry.{OnShogiBoard}
 use Rattle.shogi_moves.specs.declared.heading.MoveDirection.{MoveDirection}
 use Rattle.shogi_moves.specs.Reach.{next_file, next_rank, square_at, step, line}
-use Rattle.shogi_moves.specs.Search.{comes_to}
+use Rattle.shogi_moves.specs.internal.Search.{comes_to}
 use Rattle.shogi_moves.proofs.TruthLemmas.{and-is, at_most-is}
 use Rattle.squares.specs.declared.sides.Side.TheVariants.{First, Second}
 use Rattle.shogi_moves.specs.declared.heading.MoveDirection.TheVariants.{Forward}
-use Rattle.shogi_moves.specs.Laws.{FileMoved, RankMoved, IsMoved}
+use Rattle.shogi_moves.specs.internal.Laws.{FileMoved, RankMoved, IsMoved}
 
 abbrev pub is_on : ℕ → ℕ → Bool
 is_on f r = (nat_le 1 f && nat_le f 9) && (nat_le 1 r && nat_le r 9)

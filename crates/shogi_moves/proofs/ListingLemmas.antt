@@ -12,11 +12,12 @@ use Rattle.squares.specs.declared.shogi.piece.HandKind.{HandKind}
 use Rattle.squares.specs.declared.shogi.piece.HandKind.TheVariants as in_hand
 use Rattle.squares.specs.declared.shogi.moves.SMove.{SMove}
 use Rattle.squares.specs.declared.shogi.moves.SMove.TheVariants.{Step, Drop}
-use Rattle.squares.specs.In.{In, In-left, In-right, In-cases, In-flat_map}
+use Rattle.squares.specs.internal.In.{In, In-left, In-right, In-cases, In-flat_map}
 use Rattle.shogi_moves.specs.Search.{all_squares}
 use Rattle.shogi_moves.specs.Computed.{all_kinds}
-use Rattle.shogi_moves.specs.Listing.{place, key_of, move_cmp, if_passes, steps_between, steps_from, all_steps}
-use Rattle.shogi_moves.specs.Listing.{drops_on, drops_of, all_drops, all_moves}
+use Rattle.shogi_moves.specs.Listing.{place, key_of, move_cmp}
+use Rattle.shogi_moves.specs.internal.Listing.{if_passes, steps_between, steps_from, all_steps}
+use Rattle.shogi_moves.specs.internal.Listing.{drops_on, drops_of, all_drops, all_moves}
 use Rattle.shogi_moves.proofs.TruthLemmas.{In-all_squares}
 
 -- a list in order before another, each of whose elements comes after all of the first

@@ -6,14 +6,16 @@ use Rattle.std.specs.Prelude.{IsTrue, ◌↔◌, not}
 use Rattle.squares.specs.declared.shogi.moves.SMove.{SMove}
 use Rattle.squares.specs.declared.shogi.moves.SMove.TheVariants.{Step, Drop}
 use Rattle.squares.specs.ShogiSets.{ShogiPosition}
-use Rattle.squares.specs.In.{In, In-Contains, Contains-In}
-use Rattle.shogi_moves.specs.Listing.{move_cmp, all_moves}
-use Rattle.shogi_moves.specs.Seeking.{is_any}
+use Rattle.squares.specs.internal.In.{In, In-Contains, Contains-In}
+use Rattle.shogi_moves.specs.Listing.{move_cmp}
+use Rattle.shogi_moves.specs.internal.Listing.{all_moves}
+use Rattle.shogi_moves.specs.internal.Seeking.{is_any}
 use Rattle.shogi_moves.specs.Reach.{KingAttacked}
-use Rattle.shogi_moves.specs.Search.{king_attacked}
+use Rattle.shogi_moves.specs.internal.Search.{king_attacked}
 use Rattle.shogi_moves.specs.Rules.{Movement, Pseudo, Safe, Mate, MatesByPawn, Legal, HasMove, board_after, play}
-use Rattle.shogi_moves.specs.Computed.{is_pseudo, leaves_king, escapes, some_move, drops_pawn, is_mate, mates_by_pawn}
-use Rattle.shogi_moves.specs.Computed.{is_legal, has_move}
+use Rattle.shogi_moves.specs.internal.Computed.{is_pseudo, leaves_king, escapes, some_move, drops_pawn, is_mate}
+use Rattle.shogi_moves.specs.internal.Computed.{mates_by_pawn}
+use Rattle.shogi_moves.specs.internal.Computed.{is_legal, has_move}
 use Rattle.shogi_moves.proofs.ListingLemmas.{NamesSquares, moves-ordered, passing-moves}
 use Rattle.shogi_moves.proofs.SeekLemmas.{any-moves}
 use Rattle.shogi_moves.proofs.AttackLemmas.{king_attacked-is}

@@ -9,27 +9,30 @@ use Rattle.std.specs.Cmp.{nat_cmp_total}
 use Rattle.std.specs.FinMap as map
 use Rattle.std.specs.FinSet as set
 use Rattle.std.proofs.lemmas.Bool.{cases_eq, and_parts, and_from, both_ways, false_from_ne_true, not-true}
-use Rattle.masks.specs.Words.{Numbers, Pops}
-use Rattle.masks.specs.Walks.{popped_kept}
+use Rattle.masks.specs.Words.{Numbers}
+use Rattle.masks.specs.internal.Words.{Pops}
+use Rattle.masks.specs.internal.Walks.{popped_kept}
 use Rattle.squares.specs.declared.sides.Side.{Side}
 use Rattle.squares.specs.declared.sides.Side.TheVariants.{First, Second}
 use Rattle.squares.specs.declared.shogi.piece.SPiece.{SPiece}
 use Rattle.squares.specs.declared.shogi.moves.SMove.{SMove}
 use Rattle.squares.specs.declared.shogi.moves.SMove.TheVariants.{Step, Drop}
-use Rattle.squares.specs.Sides.{same_side, same_side-same}
+use Rattle.squares.specs.Sides.{same_side}
+use Rattle.squares.specs.internal.Sides.{same_side-same}
 use Rattle.squares.specs.ShogiBoard.{ShogiBoard}
 use Rattle.squares.specs.ShogiGeometry.{file_of, rank_of}
-use Rattle.squares.specs.ShogiSets.{is_king, holds_king, ShogiPosition}
-use Rattle.squares.specs.ShogiWords.{is_side}
-use Rattle.squares.specs.In.{In, list_any-finds}
+use Rattle.squares.specs.ShogiSets.{is_king, ShogiPosition}
+use Rattle.squares.specs.internal.ShogiSets.{holds_king}
+use Rattle.squares.specs.internal.ShogiWords.{is_side}
+use Rattle.squares.specs.internal.In.{In, list_any-finds}
 use Rattle.shogi_moves.specs.declared.heading.MoveDirection.{MoveDirection}
 use Rattle.shogi_moves.specs.declared.heading.MoveDirection.TheVariants.{Forward}
 use Rattle.shogi_moves.specs.Reach.{step, line, king, KingAttacked}
-use Rattle.shogi_moves.specs.Search.{all_headings, attacked, king_attacked}
-use Rattle.shogi_moves.specs.Facing.{faced, faced_by, faced_along, seen}
-use Rattle.shogi_moves.specs.Kings.{AreKings}
+use Rattle.shogi_moves.specs.internal.Search.{all_headings, attacked, king_attacked}
+use Rattle.shogi_moves.specs.internal.Facing.{faced, faced_by, faced_along, seen}
+use Rattle.shogi_moves.specs.internal.Kings.{AreKings}
 use Rattle.shogi_moves.specs.Rules.{arrived, board_after}
-use Rattle.shogi_moves.specs.Pins.{is_unpinned, exposes_nothing}
+use Rattle.shogi_moves.specs.internal.Pins.{is_unpinned, exposes_nothing}
 use Rattle.shogi_moves.proofs.LineLemmas.{Moved, HasAt, line-moved}
 use Rattle.shogi_moves.proofs.ReachLemmas.{In-all_headings}
 use Rattle.shogi_moves.proofs.PlayLemmas.{tied_same, tied_other, get-cleared, get-cleared_other, arrived-king}

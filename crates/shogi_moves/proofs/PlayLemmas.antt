@@ -23,14 +23,16 @@ use Rattle.squares.specs.declared.shogi.hand.Hands.{Hands}
 use Rattle.squares.specs.ShogiBoard.{ShogiBoard}
 use Rattle.squares.specs.ShogiHands.{count_of, with_count}
 use Rattle.squares.specs.ShogiPieces.{kind_of, hand_kind}
-use Rattle.squares.specs.ShogiSets.{count_on, is_of, is_king, holds_kind, ShogiPosition, IsShogiPosition, holds_king}
+use Rattle.squares.specs.ShogiSets.{is_king, ShogiPosition}
+use Rattle.squares.specs.internal.ShogiSets.{count_on, is_of, holds_kind, IsShogiPosition, holds_king}
 use Rattle.shogi_moves.specs.Rules.{held, with_held, dropped_role, arrived, taken_kind, Goes, Pseudo, may_land}
 use Rattle.shogi_moves.specs.Rules.{board_after, hands_after}
 use Rattle.std.specs.Prelude.{not}
 use Rattle.std.specs.FinMap as map
 use Rattle.squares.specs.declared.shogi.moves.SMove.{SMove}
 use Rattle.squares.specs.declared.shogi.moves.SMove.TheVariants.{Step, Drop}
-use Rattle.squares.specs.Sides.{same_side, same_side-of}
+use Rattle.squares.specs.Sides.{same_side}
+use Rattle.squares.specs.internal.Sides.{same_side-of}
 use Rattle.shogi_moves.proofs.ReachLemmas.{Reach-on}
 
 -- one where the test holds

@@ -9,11 +9,11 @@ use Rattle.squares.specs.declared.sides.Side.{Side}
 use Rattle.squares.specs.declared.shogi.piece.SPiece.{SPiece}
 use Rattle.squares.specs.ShogiBoard.{ShogiBoard}
 use Rattle.squares.specs.ShogiGeometry.{file_of, rank_of}
-use Rattle.squares.specs.In.{In, list_any-found, list_any-finds}
+use Rattle.squares.specs.internal.In.{In, list_any-found, list_any-finds}
 use Rattle.shogi_moves.specs.declared.heading.MoveDirection.{MoveDirection}
 use Rattle.shogi_moves.specs.declared.heading.MoveDirection.TheVariants.{Forward}
 use Rattle.shogi_moves.specs.Reach.{next_file, next_rank, square_at, step, line, range, AllClear, Reach}
-use Rattle.shogi_moves.specs.Search.{all_headings, comes_to, piece_reaches}
+use Rattle.shogi_moves.specs.internal.Search.{all_headings, comes_to, piece_reaches}
 use Rattle.shogi_moves.proofs.LineLemmas.{line-edge, HasAt, line-moved}
 
 pub In-all_headings : (heading : MoveDirection) → In heading all_headings

@@ -11,16 +11,19 @@ use Rattle.squares.specs.declared.shogi.piece.Role.TheVariants as role
 use Rattle.squares.specs.declared.shogi.piece.HandKind.TheVariants as in_hand
 use Rattle.squares.specs.declared.shogi.moves.SMove.{SMove}
 use Rattle.squares.specs.declared.shogi.moves.SMove.TheVariants.{Step, Drop}
-use Rattle.squares.specs.Sides.{same_side, same_side-of, same_side-same, same_side-itself}
+use Rattle.squares.specs.Sides.{same_side}
+use Rattle.squares.specs.internal.Sides.{same_side-of, same_side-same, same_side-itself}
 use Rattle.squares.specs.ShogiBoard.{ShogiBoard}
 use Rattle.squares.specs.ShogiSets.{ShogiPosition}
 use Rattle.squares.specs.ShogiGeometry.{file_of}
-use Rattle.shogi_moves.specs.Search.{piece_reaches}
+use Rattle.shogi_moves.specs.internal.Search.{piece_reaches}
 use Rattle.shogi_moves.specs.Rules.{held, may_promote, is_stuck, may_land, Goes, Movement, Lacks, StuckAfter, Stays}
 use Rattle.shogi_moves.specs.Rules.{DropsDead, pawn, PawnOnFile, DropsPawn, DropsSecondPawn, target, Pseudo}
-use Rattle.shogi_moves.specs.Computed.{goes, is_free, is_movement, drops_unheld, stuck_after, fails_to_promote, drops_dead, is_pawn}
-use Rattle.shogi_moves.specs.Computed.{holds_pawn, pawn_on_file_at, pawn_on_file, drops_pawn, drops_second_pawn}
-use Rattle.shogi_moves.specs.Computed.{is_pseudo}
+use Rattle.shogi_moves.specs.internal.Computed.{goes, is_free, is_movement, drops_unheld, stuck_after}
+use Rattle.shogi_moves.specs.internal.Computed.{fails_to_promote, drops_dead, is_pawn}
+use Rattle.shogi_moves.specs.internal.Computed.{holds_pawn, pawn_on_file_at, pawn_on_file, drops_pawn}
+use Rattle.shogi_moves.specs.internal.Computed.{drops_second_pawn}
+use Rattle.shogi_moves.specs.internal.Computed.{is_pseudo}
 use Rattle.shogi_moves.proofs.ReachLemmas.{piece_reaches-sound, piece_reaches-complete, is_none-none}
 use Rattle.shogi_moves.proofs.TruthLemmas.{standing-is, some_square-is, not-is, and-is, same-is}
 

@@ -5,18 +5,23 @@ use Rattle.std.specs.List.{flat_map, list_any}
 use Rattle.std.proofs.Math.Bool.{or_comm, or_assoc, or-true, or-false, and-true}
 use Rattle.std.proofs.lemmas.List.{append-nil, take_more, take_all}
 use Rattle.std.specs.FinSet as set
-use Rattle.masks.specs.Words.{Numbers, Pops, ascending}
-use Rattle.masks.specs.Walks.{popped_kept, flat_map-ascending}
+use Rattle.masks.specs.Words.{Numbers}
+use Rattle.masks.specs.internal.Words.{Pops, ascending}
+use Rattle.masks.specs.internal.Walks.{popped_kept, flat_map-ascending}
 use Rattle.squares.specs.declared.shogi.moves.SMove.{SMove}
 use Rattle.squares.specs.declared.shogi.moves.SMove.TheVariants.{Step, Drop}
 use Rattle.squares.specs.declared.shogi.piece.HandKind.{HandKind}
-use Rattle.shogi_moves.specs.Search.{all_squares, comes_to, piece_reaches}
-use Rattle.shogi_moves.specs.Computed.{all_kinds, some_step_between, some_step_from, some_drop_of, some_move, goes}
-use Rattle.shogi_moves.specs.Computed.{stuck_after, drops_second_pawn, is_pseudo, leaves_king, escapes, mates_by_pawn}
-use Rattle.shogi_moves.specs.Computed.{is_legal}
-use Rattle.shogi_moves.specs.Listing.{if_passes, steps_between, steps_from, all_steps, drops_on, drops_of, all_drops}
-use Rattle.shogi_moves.specs.Listing.{all_moves}
-use Rattle.shogi_moves.specs.Seeking.{is_any}
+use Rattle.shogi_moves.specs.Search.{all_squares}
+use Rattle.shogi_moves.specs.internal.Search.{comes_to, piece_reaches}
+use Rattle.shogi_moves.specs.Computed.{all_kinds}
+use Rattle.shogi_moves.specs.internal.Computed.{some_step_between, some_step_from, some_drop_of, some_move, goes}
+use Rattle.shogi_moves.specs.internal.Computed.{stuck_after, drops_second_pawn, is_pseudo, leaves_king, escapes}
+use Rattle.shogi_moves.specs.internal.Computed.{mates_by_pawn}
+use Rattle.shogi_moves.specs.internal.Computed.{is_legal}
+use Rattle.shogi_moves.specs.internal.Listing.{if_passes, steps_between, steps_from, all_steps, drops_on, drops_of}
+use Rattle.shogi_moves.specs.internal.Listing.{all_drops}
+use Rattle.shogi_moves.specs.internal.Listing.{all_moves}
+use Rattle.shogi_moves.specs.internal.Seeking.{is_any}
 use Rattle.std.specs.Prelude.{not, is_none}
 use Rattle.std.specs.Option.{option_map_or}
 use Rattle.std.specs.FinMap as map
@@ -25,15 +30,15 @@ use Rattle.std.proofs.lemmas.Grind.{common_steps}
 use Rattle.std.proofs.lemmas.List.Folds.{list_any-append}
 use Rattle.squares.specs.declared.sides.Side.{Side}
 use Rattle.squares.specs.declared.shogi.piece.SPiece.{SPiece}
-use Rattle.squares.specs.Sides.{same_side-of}
+use Rattle.squares.specs.internal.Sides.{same_side-of}
 use Rattle.squares.specs.ShogiBoard.{ShogiBoard}
 use Rattle.squares.specs.ShogiSets.{ShogiPosition}
-use Rattle.squares.specs.ShogiWords.{is_side}
-use Rattle.squares.specs.DraughtsMarks.{contains-insert_nat}
+use Rattle.squares.specs.internal.ShogiWords.{is_side}
+use Rattle.squares.specs.internal.DraughtsMarks.{contains-insert_nat}
 use Rattle.shogi_moves.specs.declared.heading.MoveDirection.{MoveDirection}
 use Rattle.shogi_moves.specs.Reach.{step, line}
 use Rattle.shogi_moves.specs.Rules.{may_land, may_promote, is_stuck, held}
-use Rattle.shogi_moves.specs.Steps.{step_passes}
+use Rattle.shogi_moves.specs.internal.Steps.{step_passes}
 use Rattle.std.proofs.lemmas.Bool.{both_ways, false_from_ne_true}
 use Rattle.shogi_moves.proofs.ReachLemmas.{piece_reaches-complete}
 use Rattle.shogi_moves.proofs.RuleLemmas.{goes_as, goes-is, is_pseudo-is}

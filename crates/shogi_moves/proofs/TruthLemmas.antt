@@ -5,7 +5,7 @@ use Rattle.std.specs.Prelude.{IsTrue, ◌↔◌, not}
 use Rattle.std.specs.List.{range_with_len, list_any}
 use Rattle.std.specs.Option.{option_map_or}
 use Rattle.std.proofs.lemmas.Bool.{and_parts, and_from, cases_eq, eqb-true, eq-eqb, leb-true, le-leb}
-use Rattle.squares.specs.In.{In, list_any-found, list_any-finds}
+use Rattle.squares.specs.internal.In.{In, list_any-found, list_any-finds}
 use Rattle.shogi_moves.specs.Search.{all_squares}
 
 In-range : (a n v : ℕ) → a ≤ v → v < a + n → In v (range_with_len a n)

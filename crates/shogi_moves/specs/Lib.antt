@@ -1,15 +1,8 @@
 pub mod Check
 pub mod Computed
 pub mod Declaring
-pub mod Facing
-pub mod Kings
-pub mod Laws
-pub mod Layouts
 pub mod Listing
-pub mod Pins
 pub mod Reach
-pub mod RuleTexts
 pub mod Rules
 pub mod Search
-pub mod Seeking
-pub mod Steps
+pub mod internal

@@ -2,8 +2,8 @@
 ghost use Rattle.std.specs.Prelude.{◌≡◌, ◌↔◌, ◌&&◌, ◌-◌, not, nat_lt, IsTrue};
 ghost use Rattle.squares.specs.Sides.{same_side};
 ghost use Rattle.shogi_moves.specs.Reach.{Attacked, KingAttacked, line, range};
-ghost use Rattle.shogi_moves.specs.Facing.{farthest, facing, faced, faced_along, seen};
-ghost use Rattle.shogi_moves.specs.Search.{attacked};
+ghost use Rattle.shogi_moves.specs.internal.Facing.{farthest, facing, faced, faced_along, seen};
+ghost use Rattle.shogi_moves.specs.internal.Search.{attacked};
 
 use crate::heading::{MoveDirection, range, step};
 use crate::kings::is_king_attacked;
@@ -96,7 +96,7 @@ fn is_faced(board: &SBoard, side: Side, heading: MoveDirection, square: Ssq) -> 
 }
 
 // Whether an enemy attacks the square, found by looking outward from it.
-#[tactic(auto, unfolding(crate::specs::Facing::seen))]
+#[tactic(auto, unfolding(crate::specs::internal::Facing::seen))]
 fn is_seen(board: &SBoard, side: Side, square: Ssq) -> bool
     ensures { result ≡ seen board.now side square }
 {

@@ -1,9 +1,9 @@
 //! The check of a single move.
 ghost use Rattle.std.specs.Prelude.{◌≡◌, ◌↔◌, true, IsTrue, IsOk, Err};
-ghost use Rattle.shogi_moves.specs.Layouts.{position_of};
+ghost use Rattle.shogi_moves.specs.internal.Layouts.{position_of};
 ghost use Rattle.shogi_moves.specs.declared.checking.Illegal.{Illegal};
 ghost use Rattle.shogi_moves.specs.Rules.{Legal, HasMove, FirstBroken};
-ghost use Rattle.shogi_moves.specs.Computed.{is_pseudo, is_legal, check_of, has_move};
+ghost use Rattle.shogi_moves.specs.internal.Computed.{is_pseudo, is_legal, check_of, has_move};
 
 use crate::layout::Layout;
 use crate::mating::{leaves_king, mates_by_pawn};
@@ -34,7 +34,7 @@ pub enum Illegal {
 
 impl fmt::Display for Illegal {
     ghost use Rattle.std.specs.Prelude.{Some};
-    ghost use Rattle.shogi_moves.specs.RuleTexts.{rule_text};
+    ghost use Rattle.shogi_moves.specs.internal.RuleTexts.{rule_text};
 
     ghost output = { λ illegal. Some (rule_text illegal) };
 
@@ -45,7 +45,7 @@ impl fmt::Display for Illegal {
 
 impl Illegal {
     ghost use Rattle.std.specs.Prelude.{◌≡◌};
-    ghost use Rattle.shogi_moves.specs.RuleTexts.{rule_text};
+    ghost use Rattle.shogi_moves.specs.internal.RuleTexts.{rule_text};
 
     fn rule(self) -> &'static str
         ensures { result.now ≡ rule_text self }
@@ -90,7 +90,7 @@ pub fn check(position: &SPos, played: &SMove) -> Result<(), Illegal>
 }
 
 // Checks a move on a layout.
-#[tactic(auto, unfolding(crate::specs::Computed::check_of))]
+#[tactic(auto, unfolding(crate::specs::internal::Computed::check_of))]
 fn check_layout(layout: &Layout, played: &SMove) -> Result<(), Illegal>
     ensures { result ≡ check_of (position_of layout.now) played.now }
 {
@@ -136,8 +136,8 @@ impl MoveVisitor for AnyLegal {
     type Fault = Infallible;
 
     ghost use Rattle.std.specs.Prelude.{◌||◌};
-    ghost use Rattle.shogi_moves.specs.Computed as computed;
-    ghost use Rattle.shogi_moves.specs.Seeking.{is_any, is_legal-only, found_none, found_more};
+    ghost use Rattle.shogi_moves.specs.internal.Computed as computed;
+    ghost use Rattle.shogi_moves.specs.internal.Seeking.{is_any, is_legal-only, found_none, found_more};
 
     ghost test = { computed.is_legal };
 

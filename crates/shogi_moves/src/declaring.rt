@@ -1,8 +1,10 @@
 //! The entering-king declaration.
 ghost use Rattle.std.specs.Prelude.{◌≡◌, ◌↔◌, ◌+◌, ◌<◌, ◌≤◌, ◌*◌, IsTrue, Some, if◌then◌else◌};
 ghost use Rattle.shogi_moves.specs.Declaring.{in_camp, worth, has_entered, cell_points, entered, camp_points};
-ghost use Rattle.shogi_moves.specs.Declaring.{hand_points, points_needed, has_enough, king_entered};
-ghost use Rattle.shogi_moves.specs.Declaring.{can_declare, CanDeclare};
+ghost use Rattle.shogi_moves.specs.Declaring.{hand_points, points_needed};
+ghost use Rattle.shogi_moves.specs.internal.Declaring.{has_enough, king_entered};
+ghost use Rattle.shogi_moves.specs.Declaring.{CanDeclare};
+ghost use Rattle.shogi_moves.specs.internal.Declaring.{can_declare};
 
 use crate::kings::{is_king_attacked, kings_of};
 use crate::zones::{far_rank, is_king};
@@ -123,7 +125,7 @@ fn has_enough(board: &SBoard, hand: Hand, side: Side) -> bool
 }
 
 // The test as a function of the position.
-#[tactic(auto, unfolding(crate::specs::Declaring::can_declare))]
+#[tactic(auto, unfolding(crate::specs::internal::Declaring::can_declare))]
 fn declares(position: &SPos) -> bool
     ensures { result ≡ can_declare position.now }
 {

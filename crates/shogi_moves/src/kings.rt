@@ -1,7 +1,7 @@
 //! The squares of the kings, and whether a king is attacked.
 ghost use Rattle.std.specs.Prelude.{◌≡◌};
-ghost use Rattle.shogi_moves.specs.Kings.{AreKings};
-ghost use Rattle.shogi_moves.specs.Search.{king_attacked};
+ghost use Rattle.shogi_moves.specs.internal.Kings.{AreKings};
+ghost use Rattle.shogi_moves.specs.internal.Search.{king_attacked};
 
 use crate::attacks::is_attacked;
 use masks::Bitboard81;

@@ -1,6 +1,6 @@
 //! Properties of the rules as a whole.
-ghost use Rattle.shogi_moves.specs.Declaring.{CanDeclareIs};
-ghost use Rattle.shogi_moves.specs.Laws.{CheckIs, HasMoveIs, TurnPasses, LinesFollowCoordinates};
+ghost use Rattle.shogi_moves.specs.internal.Declaring.{CanDeclareIs};
+ghost use Rattle.shogi_moves.specs.internal.Laws.{CheckIs, HasMoveIs, TurnPasses, LinesFollowCoordinates};
 
 /// Lemma: `check_of` accepts exactly the legal moves and gives every other move the first rule that it breaks.
 pub fn check_is()

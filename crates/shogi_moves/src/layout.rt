@@ -1,12 +1,12 @@
 //! The parts of a position on which move generation works, and the effect of a move on them.
 ghost use Rattle.std.specs.Prelude.{◌≡◌, ℕ, true};
 ghost use Rattle.std.specs.FinSet as set;
-ghost use Rattle.squares.specs.ShogiSets.{IsShogiPosition};
+ghost use Rattle.squares.specs.internal.ShogiSets.{IsShogiPosition};
 ghost use Rattle.shogi_moves.specs.Rules.{held, with_held, dropped_role, arrived, board_after};
 ghost use Rattle.shogi_moves.specs.Rules.{play};
 ghost use Rattle.squares.specs.declared.shogi.moves.SMove.TheVariants.{Step, Drop};
-ghost use Rattle.shogi_moves.specs.Search.{king_attacked};
-ghost use Rattle.shogi_moves.specs.Pins.{is_unpinned, exposes_nothing};
+ghost use Rattle.shogi_moves.specs.internal.Search.{king_attacked};
+ghost use Rattle.shogi_moves.specs.internal.Pins.{is_unpinned, exposes_nothing};
 
 use crate::kings::is_king_attacked;
 use crate::pins::unpinned_pieces;
@@ -26,7 +26,7 @@ pub struct Layout {
 }
 
 impl Layout {
-    ghost use Rattle.shogi_moves.specs.Layouts.{position_of};
+    ghost use Rattle.shogi_moves.specs.internal.Layouts.{position_of};
 
     /// The layout of a position.
     pub fn from_position(position: &SPos) -> Layout

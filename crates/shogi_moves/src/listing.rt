@@ -32,8 +32,8 @@ impl MoveVisitor for Listed {
     type Fault = AllocError;
 
     ghost use Rattle.std.specs.Prelude.{◌++◌};
-    ghost use Rattle.shogi_moves.specs.Computed as computed;
-    ghost use Rattle.shogi_moves.specs.Seeking.{is_legal-only, listed_none, listed_more};
+    ghost use Rattle.shogi_moves.specs.internal.Computed as computed;
+    ghost use Rattle.shogi_moves.specs.internal.Seeking.{is_legal-only, listed_none, listed_more};
 
     ghost test = { computed.is_legal };
 

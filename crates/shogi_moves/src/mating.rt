@@ -1,8 +1,8 @@
 //! Mate.
 ghost use Rattle.std.specs.Prelude.{◌≡◌, ◌↔◌, IsTrue};
-ghost use Rattle.shogi_moves.specs.Layouts.{position_of};
+ghost use Rattle.shogi_moves.specs.internal.Layouts.{position_of};
 ghost use Rattle.shogi_moves.specs.Rules.{Mate};
-ghost use Rattle.shogi_moves.specs.Computed.{leaves_king, escapes, some_move, is_mate, mates_by_pawn};
+ghost use Rattle.shogi_moves.specs.internal.Computed.{leaves_king, escapes, some_move, is_mate, mates_by_pawn};
 
 use crate::layout::Layout;
 use crate::move_visitor::{MoveVisitor, visit_moves};
@@ -20,7 +20,7 @@ pub fn mated(position: &SPos) -> bool
 }
 
 /// Whether the moving side's king is attacked after the move.
-#[tactic(auto, unfolding(crate::specs::Computed::leaves_king))]
+#[tactic(auto, unfolding(crate::specs::internal::Computed::leaves_king))]
 pub fn leaves_king(layout: &Layout, played: &SMove) -> bool
     ensures { result ≡ leaves_king (position_of layout.now) played.now }
 {
@@ -37,8 +37,8 @@ impl MoveVisitor for AnyEscape {
     type Fault = Infallible;
 
     ghost use Rattle.std.specs.Prelude.{◌||◌};
-    ghost use Rattle.shogi_moves.specs.Computed as computed;
-    ghost use Rattle.shogi_moves.specs.Seeking.{is_any, escapes-only, found_none, found_more};
+    ghost use Rattle.shogi_moves.specs.internal.Computed as computed;
+    ghost use Rattle.shogi_moves.specs.internal.Seeking.{is_any, escapes-only, found_none, found_more};
 
     ghost test = { computed.escapes };
 
@@ -73,7 +73,7 @@ fn has_escape(layout: &Layout) -> bool
 }
 
 /// Whether the side to move is mated.
-#[tactic(auto, unfolding(crate::specs::Computed::is_mate))]
+#[tactic(auto, unfolding(crate::specs::internal::Computed::is_mate))]
 pub fn is_mate(layout: &Layout) -> bool
     ensures { result ≡ is_mate (position_of layout.now) }
 {
@@ -84,7 +84,7 @@ pub fn is_mate(layout: &Layout) -> bool
 }
 
 /// Whether the move drops a pawn that gives mate.
-#[tactic(auto, unfolding(crate::specs::Computed::mates_by_pawn))]
+#[tactic(auto, unfolding(crate::specs::internal::Computed::mates_by_pawn))]
 pub fn mates_by_pawn(layout: &Layout, played: &SMove) -> bool
     ensures { result ≡ mates_by_pawn (position_of layout.now) played.now }
 {

@@ -2,9 +2,9 @@
 ghost use Rattle.std.specs.Prelude.{◌≡◌, ℕ, true, false, Some};
 ghost use Rattle.std.specs.FinMap as map;
 ghost use Rattle.std.specs.FinSet as set;
-ghost use Rattle.shogi_moves.specs.Facing.{seen};
-ghost use Rattle.shogi_moves.specs.Pins.{is_unpinned, ExposesAlone};
-ghost use Rattle.shogi_moves.specs.Search.{king_attacked};
+ghost use Rattle.shogi_moves.specs.internal.Facing.{seen};
+ghost use Rattle.shogi_moves.specs.internal.Pins.{is_unpinned, ExposesAlone};
+ghost use Rattle.shogi_moves.specs.internal.Search.{king_attacked};
 
 use crate::attacks::{farthest, is_faced_from};
 use crate::heading::{MoveDirection, step};

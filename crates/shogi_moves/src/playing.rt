@@ -1,7 +1,7 @@
 //! The position after a move.
 ghost use Rattle.std.specs.Prelude.{◌≡◌, ◌+◌};
-ghost use Rattle.squares.specs.ShogiSets.{IsShogiPosition};
-ghost use Rattle.shogi_moves.specs.Layouts.{position_of};
+ghost use Rattle.squares.specs.internal.ShogiSets.{IsShogiPosition};
+ghost use Rattle.shogi_moves.specs.internal.Layouts.{position_of};
 ghost use Rattle.shogi_moves.specs.Rules.{Legal, held, taken_kind, hands_after, play};
 
 use crate::layout::{Layout, with_held};

@@ -5,11 +5,13 @@ ghost use Rattle.std.specs.FinSet as set;
 ghost use Rattle.squares.specs.ShogiGeometry.{file_of};
 ghost use Rattle.squares.specs.Sides.{same_side};
 ghost use Rattle.shogi_moves.specs.Rules.{may_land, may_promote};
-ghost use Rattle.shogi_moves.specs.Search.{piece_reaches};
-ghost use Rattle.shogi_moves.specs.Layouts.{position_of};
-ghost use Rattle.shogi_moves.specs.Computed.{goes, is_free, is_movement, drops_unheld, stuck_after, fails_to_promote};
-ghost use Rattle.shogi_moves.specs.Computed.{drops_dead};
-ghost use Rattle.shogi_moves.specs.Computed.{holds_pawn, pawn_on_file, drops_pawn, drops_second_pawn, is_pseudo};
+ghost use Rattle.shogi_moves.specs.internal.Search.{piece_reaches};
+ghost use Rattle.shogi_moves.specs.internal.Layouts.{position_of};
+ghost use Rattle.shogi_moves.specs.internal.Computed.{goes, is_free, is_movement, drops_unheld, stuck_after};
+ghost use Rattle.shogi_moves.specs.internal.Computed.{fails_to_promote};
+ghost use Rattle.shogi_moves.specs.internal.Computed.{drops_dead};
+ghost use Rattle.shogi_moves.specs.internal.Computed.{holds_pawn, pawn_on_file, drops_pawn, drops_second_pawn};
+ghost use Rattle.shogi_moves.specs.internal.Computed.{is_pseudo};
 
 use crate::layout::{Layout, dropped_role};
 use crate::reaching::piece_reaches;
@@ -30,7 +32,7 @@ fn piece_goes(layout: &Layout, piece: SPiece, from: Ssq, to: Ssq, promote: bool)
 }
 
 // Whether the piece on `from` can step to `to`.
-#[tactic(auto, unfolding(crate::specs::Computed::goes))]
+#[tactic(auto, unfolding(crate::specs::internal::Computed::goes))]
 fn goes(layout: &Layout, from: Ssq, to: Ssq, promote: bool) -> bool
     ensures { result ≡ goes (position_of layout.now) from to promote }
 {
@@ -71,7 +73,7 @@ pub fn drops_unheld(layout: &Layout, played: &SMove) -> bool
 }
 
 // Whether the piece on `from`, unpromoted, could never move from `to`.
-#[tactic(auto, unfolding(crate::specs::Computed::stuck_after))]
+#[tactic(auto, unfolding(crate::specs::internal::Computed::stuck_after))]
 fn stuck_after(layout: &Layout, from: Ssq, to: Ssq) -> bool
     ensures { result ≡ stuck_after (position_of layout.now) from to }
 {
@@ -145,7 +147,7 @@ pub fn drops_pawn(played: &SMove) -> bool
 }
 
 /// Whether the move drops a pawn on a file that already has an unpromoted pawn of the side.
-#[tactic(auto, unfolding(crate::specs::Computed::drops_second_pawn))]
+#[tactic(auto, unfolding(crate::specs::internal::Computed::drops_second_pawn))]
 pub fn drops_second_pawn(layout: &Layout, played: &SMove) -> bool
     ensures { result ≡ drops_second_pawn (position_of layout.now) played.now }
 {
@@ -159,7 +161,7 @@ pub fn drops_second_pawn(layout: &Layout, played: &SMove) -> bool
 }
 
 /// Whether the move is pseudo-legal: legal except for attacks on kings and mate by a dropped pawn.
-#[tactic(auto, unfolding(crate::specs::Computed::is_pseudo))]
+#[tactic(auto, unfolding(crate::specs::internal::Computed::is_pseudo))]
 pub fn is_pseudo(layout: &Layout, played: &SMove) -> bool
     ensures { result ≡ is_pseudo (position_of layout.now) played.now }
 {

@@ -2,7 +2,7 @@
 ghost use Rattle.std.specs.Prelude.{◌≡◌, ◌||◌, ℕ};
 ghost use Rattle.std.specs.FinSet as set;
 ghost use Rattle.shogi_moves.specs.Reach.{line, range};
-ghost use Rattle.shogi_moves.specs.Search.{comes_to, piece_reaches, side_reaches};
+ghost use Rattle.shogi_moves.specs.internal.Search.{comes_to, piece_reaches, side_reaches};
 
 use crate::heading::{MoveDirection, range, step};
 use masks::Bitboard81;
@@ -59,7 +59,7 @@ fn comes_to(board: &SBoard, way: Way, to: Ssq) -> bool
 }
 
 /// Whether the piece on `from` attacks `to`.
-#[tactic(auto, unfolding(crate::specs::Search::piece_reaches))]
+#[tactic(auto, unfolding(crate::specs::internal::Search::piece_reaches))]
 pub fn piece_reaches(board: &SBoard, piece: SPiece, from: Ssq, to: Ssq) -> bool
     ensures { result ≡ piece_reaches board.now piece from to }
 {
@@ -71,7 +71,7 @@ pub fn piece_reaches(board: &SBoard, piece: SPiece, from: Ssq, to: Ssq) -> bool
 }
 
 /// Whether `from` holds a piece of the side that attacks `to`.
-#[tactic(auto, unfolding(crate::specs::Search::side_reaches))]
+#[tactic(auto, unfolding(crate::specs::internal::Search::side_reaches))]
 pub fn side_reaches(board: &SBoard, side: Side, to: Ssq, from: Ssq) -> bool
     ensures { result ≡ side_reaches board.now side to from }
 {

@@ -15,17 +15,19 @@ use Rattle.squares.specs.declared.shogi.moves.SMove.{SMove}
 use Rattle.squares.specs.Sides.{other, same_side}
 use Rattle.squares.specs.ShogiSets.{ShogiPosition}
 use Rattle.squares.specs.TheOnly.{TheOnly}
-use Rattle.squares.specs.ShogiSamePosition.{same_shogi_position, same_shogi_position-same, same_shogi_position-itself}
+use Rattle.squares.specs.ShogiSamePosition.{same_shogi_position}
+use Rattle.squares.specs.internal.ShogiSamePosition.{same_shogi_position-same, same_shogi_position-itself}
 use Rattle.shogi_moves.specs.Rules.{HasMove, play}
-use Rattle.shogi_moves.specs.Computed.{has_move}
+use Rattle.shogi_moves.specs.internal.Computed.{has_move}
 use Rattle.shogi_moves.proofs.Proved.{has_move-is, king_attacked-is}
 use Rattle.shogi_repetition.specs.declared.ends.SEnd.{SEnd}
 use Rattle.shogi_repetition.specs.declared.ends.SEnd.TheVariants.{NoMove, PerpetualCheck, Fourfold, PlyLimit}
-use Rattle.shogi_repetition.specs.Line.{last_position, position_after, positions}
+use Rattle.shogi_repetition.specs.Line.{last_position, position_after}
+use Rattle.shogi_repetition.specs.internal.Line.{positions}
 use Rattle.shogi_repetition.specs.Ends.{StandsAfter, StandsFourTimes, FirstOccurs, InCheck, GaveCheckThroughout}
 use Rattle.shogi_repetition.specs.Ends.{ChecksAlone, EndsSo, is_in_check, end_by_checks}
-use Rattle.shogi_repetition.specs.Computed.{keeps_checking, checks_throughout, stands_four_times, since_first}
-use Rattle.shogi_repetition.specs.Computed.{repetition, first_end, end_of}
+use Rattle.shogi_repetition.specs.internal.Computed.{keeps_checking, checks_throughout, stands_four_times, since_first}
+use Rattle.shogi_repetition.specs.internal.Computed.{repetition, first_end, end_of}
 use Rattle.shogi_repetition.proofs.PlaceLemmas.{next, counted, steps, stepped}
 
 -- a move of the side, with or without check

@@ -12,22 +12,25 @@ use Rattle.game_history.proofs.Proved as lines
 use Rattle.squares.specs.declared.sides.Side.TheVariants.{First, Second}
 use Rattle.squares.specs.declared.shogi.moves.SMove.{SMove}
 use Rattle.squares.specs.ShogiSets.{ShogiPosition}
-use Rattle.squares.specs.ShogiSamePosition.{same_shogi_position, same_shogi_position-same, same_shogi_position-itself}
-use Rattle.squares.specs.ShogiOrder.{position_cmp}
-use Rattle.squares.specs.ShogiOrderLaws.{position_cmp-tied}
+use Rattle.squares.specs.ShogiSamePosition.{same_shogi_position}
+use Rattle.squares.specs.internal.ShogiSamePosition.{same_shogi_position-same, same_shogi_position-itself}
+use Rattle.squares.specs.internal.ShogiOrder.{position_cmp}
+use Rattle.squares.specs.internal.ShogiOrderLaws.{position_cmp-tied}
 use Rattle.shogi_moves.specs.declared.checking.Illegal.{Illegal}
 use Rattle.shogi_moves.specs.Rules.{Legal, FirstBroken, play}
-use Rattle.shogi_moves.specs.Computed.{has_move}
+use Rattle.shogi_moves.specs.internal.Computed.{has_move}
 use Rattle.shogi_repetition.specs.declared.ends.SEnd.{SEnd}
 use Rattle.shogi_repetition.specs.declared.ends.SEnd.TheVariants.{NoMove, PlyLimit}
 use Rattle.shogi_repetition.specs.declared.marks.Marks.{Marks}
 use Rattle.shogi_repetition.specs.declared.marks.RepetitionCount.{RepetitionCount}
 use Rattle.shogi_repetition.specs.declared.tails.Tail.{Tail}
-use Rattle.shogi_repetition.specs.Line.{last_position, positions}
+use Rattle.shogi_repetition.specs.Line.{last_position}
+use Rattle.shogi_repetition.specs.internal.Line.{positions}
 use Rattle.shogi_repetition.specs.Ends.{FirstOccurs, EndsSo, is_in_check}
-use Rattle.shogi_repetition.specs.Faults.{shogi_lines, HasFault}
+use Rattle.shogi_repetition.specs.Faults.{shogi_lines}
+use Rattle.shogi_repetition.specs.internal.Faults.{HasFault}
 use Rattle.shogi_repetition.specs.Tails.{no_checks, count_on, tail_after, next_tail, repetition_by, end_by}
-use Rattle.shogi_repetition.specs.Counting.{HasStood, Follows, stood_again}
+use Rattle.shogi_repetition.specs.internal.Counting.{HasStood, Follows, stood_again}
 use Rattle.shogi_repetition.proofs.PlaceLemmas.{counted}
 use Rattle.shogi_repetition.proofs.EndLemmas.{end_of-is}
 use Rattle.shogi_repetition.proofs.TailLemmas.{tail-begins, tail-goes-on, ends-by-tail}

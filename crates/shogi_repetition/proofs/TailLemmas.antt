@@ -14,17 +14,21 @@ use Rattle.squares.specs.declared.sides.Side.TheVariants.{First, Second}
 use Rattle.squares.specs.declared.shogi.moves.SMove.{SMove}
 use Rattle.squares.specs.Sides.{other, same_side}
 use Rattle.squares.specs.ShogiSets.{ShogiPosition}
-use Rattle.squares.specs.RunLemmas.{end_so-run, suffix_len-more}
+use Rattle.squares.specs.internal.RunLemmas.{end_so-run, suffix_len-more}
 use Rattle.shogi_moves.specs.Rules.{play}
-use Rattle.shogi_moves.specs.Computed.{has_move}
+use Rattle.shogi_moves.specs.internal.Computed.{has_move}
 use Rattle.shogi_repetition.specs.declared.ends.SEnd.TheVariants.{NoMove, PlyLimit}
 use Rattle.shogi_repetition.specs.declared.tails.Tail.{Tail}
-use Rattle.shogi_repetition.specs.Line.{last_position, position_after, positions}
+use Rattle.shogi_repetition.specs.Line.{last_position, position_after}
+use Rattle.shogi_repetition.specs.internal.Line.{positions}
 use Rattle.shogi_repetition.specs.Ends.{FirstOccurs, is_in_check, end_by_checks}
-use Rattle.shogi_repetition.specs.Computed.{checks_throughout, stands_four_times, since_first, repetition, first_end}
-use Rattle.shogi_repetition.specs.Computed.{end_of}
-use Rattle.shogi_repetition.specs.Tails.{led_to, checks_in_a_row, tail_of, no_checks, count_on, tail_after, next_tail}
-use Rattle.shogi_repetition.specs.Tails.{repetition_by, end_by, times_stood}
+use Rattle.shogi_repetition.specs.internal.Computed.{checks_throughout, stands_four_times, since_first, repetition}
+use Rattle.shogi_repetition.specs.internal.Computed.{first_end}
+use Rattle.shogi_repetition.specs.internal.Computed.{end_of}
+use Rattle.shogi_repetition.specs.Tails.{no_checks, count_on, tail_after, next_tail}
+use Rattle.shogi_repetition.specs.internal.Tails.{led_to, checks_in_a_row, tail_of}
+use Rattle.shogi_repetition.specs.Tails.{repetition_by, end_by}
+use Rattle.shogi_repetition.specs.internal.Tails.{times_stood}
 use Rattle.shogi_repetition.proofs.EndLemmas.{place, first-stands, since_first-is, one-first}
 
 -- ---- ply by ply

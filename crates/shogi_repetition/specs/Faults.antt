@@ -1,6 +1,5 @@
 -- Legal shogi histories, and the faults of the others.
 use Rattle.std.specs.Prelude.{ℕ, List}
-use Rattle.game_history.specs.declared.faults.LineFault.{LineFault}
 use Rattle.game_history.specs.Faults as lines
 use Rattle.squares.specs.declared.shogi.moves.SMove.{SMove}
 use Rattle.squares.specs.ShogiSets.{ShogiPosition}
@@ -13,11 +12,5 @@ use Rattle.shogi_repetition.specs.Ends.{EndsSo}
 abbrev pub shogi_lines : lines.LineRules ShogiPosition SMove SEnd Illegal
 shogi_lines = record { play = play; Legal = Legal; IsRefused = FirstBroken; EndsSo = EndsSo }
 
-abbrev pub GoesOn : ShogiPosition → List SMove → ℕ → Type 0
-GoesOn = lines.GoesOn shogi_lines
-
 abbrev pub IsPlayed : ShogiPosition → List SMove → ℕ → Type 0
 IsPlayed = lines.IsPlayed shogi_lines
-
-abbrev pub HasFault : ShogiPosition → List SMove → LineFault Illegal → Type 0
-HasFault = lines.HasFault shogi_lines

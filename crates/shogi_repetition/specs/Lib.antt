@@ -1,7 +1,5 @@
-pub mod Computed
-pub mod Counting
 pub mod Ends
 pub mod Faults
-pub mod Laws
 pub mod Line
 pub mod Tails
+pub mod internal

@@ -12,7 +12,3 @@ last_position = line.last_position play
 -- The position after k plies.
 abbrev pub position_after : ShogiPosition → List SMove → ℕ → ShogiPosition
 position_after = line.position_after play
-
--- All positions of a history, from the first to the last.
-abbrev pub positions : ShogiPosition → List SMove → List ShogiPosition
-positions = line.positions play

@@ -1,7 +1,8 @@
 //! Judging a whole game.
 ghost use Rattle.std.specs.Prelude.{IfOk, IfErr, length};
 ghost use Rattle.shogi_repetition.specs.Ends.{EndsSo};
-ghost use Rattle.shogi_repetition.specs.Faults.{IsPlayed, HasFault};
+ghost use Rattle.shogi_repetition.specs.Faults.{IsPlayed};
+ghost use Rattle.shogi_repetition.specs.internal.Faults.{HasFault};
 
 use crate::ends::SEnd;
 use crate::faults::SLineFault;

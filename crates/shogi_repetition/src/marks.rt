@@ -1,7 +1,7 @@
 //! The state of a game that is judged ply by ply.
 ghost use Rattle.std.specs.Prelude.{◌≡◌, ◌≤◌, ◌+◌, [], IfOk, IfErr, OnOk, OnErr};
 ghost use Rattle.std.specs.BTreeMap.{get};
-ghost use Rattle.squares.specs.ShogiOrder.{position_cmp};
+ghost use Rattle.squares.specs.internal.ShogiOrder.{position_cmp};
 
 use crate::ends::SEnd;
 use crate::faults::SLineFault;
@@ -37,8 +37,8 @@ pub struct Marks {
 
 impl Marks {
     ghost use Rattle.game_history.specs.declared.faults.LineFault.TheVariants.{Memory};
-    ghost use Rattle.game_history.specs.Following.{GrowsBy, RefusesNext, StaysSo};
-    ghost use Rattle.shogi_repetition.specs.Counting.{Follows, IsEndOf, stood_again};
+    ghost use Rattle.game_history.specs.internal.Following.{GrowsBy, RefusesNext, StaysSo};
+    ghost use Rattle.shogi_repetition.specs.internal.Counting.{Follows, IsEndOf, stood_again};
     ghost use Rattle.shogi_repetition.specs.Faults.{shogi_lines};
     ghost use Rattle.shogi_repetition.specs.Tails.{end_by};
 

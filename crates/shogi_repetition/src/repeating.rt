@@ -1,6 +1,6 @@
 //! Checks during a repetition.
 ghost use Rattle.std.specs.Prelude.{◌≡◌};
-ghost use Rattle.shogi_moves.specs.Computed.{has_move};
+ghost use Rattle.shogi_moves.specs.internal.Computed.{has_move};
 ghost use Rattle.shogi_repetition.specs.Ends.{is_in_check, end_by_checks};
 
 use crate::ends::SEnd;

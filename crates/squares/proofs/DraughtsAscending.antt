@@ -7,8 +7,9 @@ use Rattle.std.specs.List.{range_with_len, list_any}
 use Rattle.std.specs.Cmp.Lexicographic.{slice_cmp}
 use Rattle.std.specs.declared.cmp.Ordering.{Ordering}
 use Rattle.std.specs.FinSet as set
-use Rattle.squares.specs.DraughtsSets.{marked, squares_of, ascending}
-use Rattle.squares.specs.DraughtsMarks.{contains-squares_of}
+use Rattle.squares.specs.DraughtsSets.{ascending}
+use Rattle.squares.specs.internal.DraughtsSets.{marked, squares_of}
+use Rattle.squares.specs.internal.DraughtsMarks.{contains-squares_of}
 
 -- a test that answers as the marks do finds what is marked
 filter-marked : (p : ℕ → Bool) (bs : List Bool) (n : ℕ)

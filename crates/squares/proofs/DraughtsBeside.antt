@@ -7,11 +7,12 @@ use Rattle.std.specs.FinSet as set
 use Rattle.std.proofs.lemmas.Bool.{cases_lt}
 use Rattle.std.proofs.lemmas.Bool.Decides.{nat_tests}
 use Rattle.std.proofs.lemmas.Grind.{common_steps}
-use Rattle.masks.specs.Words.{Numbers, has_bit, has_bit_above}
+use Rattle.masks.specs.Words.{Numbers, has_bit}
+use Rattle.masks.specs.internal.Words.{has_bit_above}
 use Rattle.squares.specs.declared.draughts.direction.Direction.{Direction}
 use Rattle.squares.specs.declared.draughts.direction.Direction.TheVariants.{UpLeft, UpRight, DownLeft, DownRight}
 use Rattle.squares.specs.DraughtsGeometry.{neighbor, step}
-use Rattle.squares.specs.DraughtsMarks.{nat_eq-same}
+use Rattle.squares.specs.internal.DraughtsMarks.{nat_eq-same}
 use Rattle.squares.proofs.DraughtsTables.{all_found, in_range}
 
 -- whether the next square is a, where the first flag stands, b, where the second stands, and none, where neither stands

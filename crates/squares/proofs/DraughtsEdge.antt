@@ -6,8 +6,9 @@ use Rattle.std.specs.List.{list_all, range_with_len}
 use Rattle.std.specs.Option.{option_map_or}
 use Rattle.squares.specs.declared.draughts.direction.Direction.{Direction}
 use Rattle.squares.specs.declared.draughts.direction.Direction.TheVariants.{UpLeft, UpRight, DownLeft, DownRight}
-use Rattle.squares.specs.DraughtsGeometry.{OnBoard, neighbor, step, line, ray, line-step, line-edge}
-use Rattle.squares.specs.DraughtsOnBoard.{ray-off}
+use Rattle.squares.specs.DraughtsGeometry.{neighbor, step, line, ray}
+use Rattle.squares.specs.internal.DraughtsGeometry.{OnBoard, line-step, line-edge}
+use Rattle.squares.specs.internal.DraughtsOnBoard.{ray-off}
 use Rattle.squares.proofs.DraughtsTables.{all_found, in_range}
 
 -- whether at most k squares lie before the edge

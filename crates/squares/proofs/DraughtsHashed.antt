@@ -7,8 +7,8 @@ use Rattle.std.specs.Hash.{HashWrites, fed_then, fed_along, slice}
 use Rattle.squares.specs.declared.draughts.piece.DPiece.{DPiece}
 use Rattle.squares.specs.declared.sides.Side.{Side}
 use Rattle.squares.specs.DraughtsBoard.{Position, board_of}
-use Rattle.squares.specs.DraughtsCells.{cells_back}
-use Rattle.squares.specs.DraughtsHash.{hash_writes}
+use Rattle.squares.specs.internal.DraughtsCells.{cells_back}
+use Rattle.squares.specs.internal.DraughtsHash.{hash_writes}
 
 module _ {S : Type 0} (write : S → List ℕ → S) (of_cell : Option DPiece → HashWrites)
     (of_turn : Side → HashWrites) where

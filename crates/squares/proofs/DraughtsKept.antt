@@ -16,11 +16,13 @@ use Rattle.squares.specs.declared.sides.Side.{Side}
 use Rattle.squares.specs.declared.sides.Side.TheVariants.{First, Second}
 use Rattle.squares.specs.Sides.{same_side}
 use Rattle.std.specs.Prelude.{is_none}
-use Rattle.squares.specs.DraughtsBoard.{Board, board_of, is_of}
-use Rattle.squares.specs.DraughtsCells.{get-board_of, get-board_of-zero, board_of-put, board_of-clear}
-use Rattle.squares.specs.DraughtsMarks.{nat_eq-same}
+use Rattle.squares.specs.DraughtsBoard.{Board, board_of}
+use Rattle.squares.specs.internal.DraughtsBoard.{is_of}
+use Rattle.squares.specs.internal.DraughtsCells.{get-board_of, get-board_of-zero, board_of-put, board_of-clear}
+use Rattle.squares.specs.internal.DraughtsMarks.{nat_eq-same}
 use Rattle.squares.specs.DraughtsOpening.{opening_piece}
-use Rattle.squares.specs.DraughtsKept.{is_king, Marks, KeepsCells, noted, cell_in, cells_in, squares_where, where_back}
+use Rattle.squares.specs.internal.DraughtsKept.{is_king, Marks, KeepsCells, noted, cell_in, cells_in, squares_where}
+use Rattle.squares.specs.internal.DraughtsKept.{where_back}
 
 module _ (test : Option DPiece → Bool) (s : Numbers) (board : Board) (n : ℕ) (marks : Marks test s board) where
   put_noted : (p : DPiece) → Marks test (noted s n (test (Some p))) (map.insert board n p)

@@ -7,15 +7,17 @@ use Rattle.std.specs.Ordering.{nat_cmp}
 use Rattle.std.specs.FinSet as set
 use Rattle.std.proofs.lemmas.Bool.{cases_lt}
 use Rattle.std.proofs.lemmas.Bool.Decides.{nat_tests}
-use Rattle.masks.specs.Words.{Numbers, IsLeast, IsGreatest, has_bit}
-use Rattle.squares.specs.In.{In, list_any-found, list_any-finds}
+use Rattle.masks.specs.Words.{Numbers, has_bit}
+use Rattle.masks.specs.internal.Words.{IsLeast, IsGreatest}
+use Rattle.squares.specs.internal.In.{In, list_any-found, list_any-finds}
 use Rattle.squares.specs.declared.draughts.ray.TheConstants.{LINES}
 use Rattle.squares.specs.declared.draughts.direction.Direction.{Direction}
 use Rattle.squares.specs.declared.draughts.direction.Direction.TheVariants.{UpLeft, UpRight, DownLeft, DownRight}
-use Rattle.squares.specs.DraughtsGeometry.{OnBoard, neighbor, step, line, ray}
-use Rattle.squares.specs.DraughtsMarks.{nat_eq-same, nat_eq_same}
-use Rattle.squares.specs.DraughtsOnBoard.{AllOnBoard, ray-on_board, ray-off}
-use Rattle.squares.specs.DraughtsTable.{place_of}
+use Rattle.squares.specs.DraughtsGeometry.{neighbor, step, line, ray}
+use Rattle.squares.specs.internal.DraughtsGeometry.{OnBoard}
+use Rattle.squares.specs.internal.DraughtsMarks.{nat_eq-same, nat_eq_same}
+use Rattle.squares.specs.internal.DraughtsOnBoard.{AllOnBoard, ray-on_board, ray-off}
+use Rattle.squares.specs.internal.DraughtsTable.{place_of}
 use Rattle.squares.proofs.DraughtsTables.{all_found, in_range}
 
 pub contained-on : (s : Numbers) (n : ℕ) → ((q : ℕ) → (q < 1) ⊎ (50 < q) → set.contains s q ≡ false)

@@ -7,9 +7,11 @@ use Rattle.std.specs.FinSet as set
 use Rattle.std.proofs.Math.ListN.{set as list_set}
 use Rattle.std.proofs.lemmas.Grind.{common_steps}
 use Rattle.std.proofs.lemmas.List.{append_assoc, append-nil}
-use Rattle.masks.specs.Words.{Pops, passing}
-use Rattle.masks.specs.Words as words
-use Rattle.squares.specs.DraughtsSets.{Squares, ascending, PopsSquare}
+use Rattle.masks.specs.Words.{passing}
+use Rattle.masks.specs.internal.Words.{Pops}
+use Rattle.masks.specs.internal.Words as words
+use Rattle.squares.specs.DraughtsSets.{Squares, ascending}
+use Rattle.squares.specs.internal.DraughtsSets.{PopsSquare}
 
 passing-filter : (test : ℕ → Bool) (first count : ℕ)
     → passing test first count ≡ filter test (range_with_len first count)

@@ -4,9 +4,10 @@ use Rattle.std.proofs.Common.{List, [], ◌∷◌, length, get_or, nat_eq, refl,
 use Rattle.std.specs.Option.{option_map_or}
 use Rattle.squares.specs.declared.draughts.direction.Direction.{Direction}
 use Rattle.squares.specs.declared.draughts.direction.Direction.TheVariants.{UpLeft, UpRight, DownLeft, DownRight}
-use Rattle.squares.specs.DraughtsGeometry.{OnBoard, IsMoved, row_of, column_of, number_at, neighbor, step, line, ray}
-use Rattle.squares.specs.DraughtsMarks.{nat_eq_other}
-use Rattle.squares.specs.DraughtsOnBoard.{nat_eq-differs, step-neighbor, step-on_board, row_of-number_at}
+use Rattle.squares.specs.DraughtsGeometry.{row_of, column_of, number_at, neighbor, step, line, ray}
+use Rattle.squares.specs.internal.DraughtsGeometry.{OnBoard, IsMoved}
+use Rattle.squares.specs.internal.DraughtsMarks.{nat_eq_other}
+use Rattle.squares.specs.internal.DraughtsOnBoard.{nat_eq-differs, step-neighbor, step-on_board, row_of-number_at}
 
 or_false : (a b : Bool) → (a || b) ≡ false → (a ≡ false) × (b ≡ false)
 or_false true b e = cc

@@ -8,10 +8,11 @@ use Rattle.std.proofs.lemmas.Bool.{cases_eq, cases_lt}
 use Rattle.std.proofs.lemmas.List.{get_or_past}
 use Rattle.squares.specs.declared.draughts.piece.DPiece.{DPiece}
 use Rattle.squares.specs.declared.sides.Side.{Side}
-use Rattle.squares.specs.DraughtsBoard.{board_of, is_of}
+use Rattle.squares.specs.DraughtsBoard.{board_of}
+use Rattle.squares.specs.internal.DraughtsBoard.{is_of}
 use Rattle.squares.specs.DraughtsSets.{Squares}
-use Rattle.squares.specs.DraughtsCells.{get-board_of, get-board_of-zero}
-use Rattle.squares.specs.DraughtsMarks.{contains-insert_nat, nat_eq_same, nat_eq_other}
+use Rattle.squares.specs.internal.DraughtsCells.{get-board_of, get-board_of-zero}
+use Rattle.squares.specs.internal.DraughtsMarks.{contains-insert_nat, nat_eq_same, nat_eq_other}
 
 -- of the first i squares, the set has those of the side, and no other
 pub record HasFirst (side : Side) (cells : List (Option DPiece)) (i : ℕ) (s : Squares) : Type 0 where

@@ -4,13 +4,14 @@ use Rattle.std.proofs.Common.{None, List, [], ◌∷◌, inl, inr, refl, sym, ap
 use Rattle.std.specs.List.{list_all, range_with_len, slice_index}
 use Rattle.std.proofs.lemmas.Bool.{cases_eq}
 use Rattle.std.proofs.lemmas.Grind.{common_steps}
-use Rattle.squares.specs.In.{In}
+use Rattle.squares.specs.internal.In.{In}
 use Rattle.squares.specs.declared.draughts.square.TheConstants.{NEIGHBORS}
 use Rattle.squares.specs.declared.draughts.direction.Direction.{Direction}
 use Rattle.squares.specs.declared.draughts.direction.Direction.TheVariants.{UpLeft, UpRight, DownLeft, DownRight}
-use Rattle.squares.specs.DraughtsGeometry.{neighbor, OnBoard}
-use Rattle.squares.specs.DraughtsMarks.{nat_eq-same}
-use Rattle.squares.specs.DraughtsTable.{place_of}
+use Rattle.squares.specs.DraughtsGeometry.{neighbor}
+use Rattle.squares.specs.internal.DraughtsGeometry.{OnBoard}
+use Rattle.squares.specs.internal.DraughtsMarks.{nat_eq-same}
+use Rattle.squares.specs.internal.DraughtsTable.{place_of}
 
 -- whether an entry says what is there
 abbrev says : ℕ → Option ℕ → Bool

@@ -11,7 +11,7 @@ use Rattle.squares.specs.declared.sides.Side.TheVariants.{First, Second}
 use Rattle.squares.specs.declared.shogi.piece.HandKind.{HandKind}
 use Rattle.squares.specs.declared.shogi.piece.HandKind.TheVariants.{Rook, Bishop, Gold, Silver, Knight, Lance, Pawn}
 use Rattle.squares.specs.declared.shogi.hand.Hands.{Hands}
-use Rattle.squares.specs.ShogiSets.{count_on, holds_king, HasKings, KeepsSets, in_play, set_size}
+use Rattle.squares.specs.internal.ShogiSets.{count_on, holds_king, HasKings, KeepsSets, in_play, set_size}
 use Rattle.squares.proofs.ShogiCells.{get-shogi_board_of}
 
 fold-map_by : {A B C : Type 0} (g : C → B → C) (f : A → B) (c : C) (xs : List A)

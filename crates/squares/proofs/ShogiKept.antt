@@ -16,7 +16,8 @@ use Rattle.squares.specs.declared.shogi.piece.Role.{Role}
 use Rattle.squares.specs.declared.shogi.piece.Role.TheVariants as role
 use Rattle.squares.specs.declared.shogi.piece.SPiece.{SPiece}
 use Rattle.squares.specs.ShogiBoard.{ShogiBoard, shogi_board_of}
-use Rattle.squares.specs.ShogiWords.{KeepsBoard, Tracks, squares_at, is_side, is_role, holds, side_place, role_place}
+use Rattle.squares.specs.internal.ShogiWords.{KeepsBoard, Tracks, squares_at, is_side, is_role, holds, side_place}
+use Rattle.squares.specs.internal.ShogiWords.{role_place}
 use Rattle.squares.proofs.ShogiCells.{get-shogi_board_of, shogi_board_of-put, shogi_board_of-clear}
 use Rattle.squares.proofs.ShogiTracks.{one_square, side_taken, side_added, role_taken, role_added}
 

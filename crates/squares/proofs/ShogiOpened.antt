@@ -15,8 +15,9 @@ use Rattle.squares.specs.declared.sides.Side.TheVariants.{First, Second}
 use Rattle.squares.specs.declared.shogi.piece.HandKind.TheVariants.{Rook, Bishop, Gold, Silver, Knight, Lance, Pawn}
 use Rattle.squares.specs.ShogiBoard.{ShogiBoard}
 use Rattle.squares.specs.declared.shogi.hand.Hands.{Hands}
-use Rattle.squares.specs.ShogiSets.{ShogiPosition, IsShogiPosition, HasKings, KeepsSets, count_on, holds_king}
-use Rattle.squares.specs.ShogiSets.{holds_kind}
+use Rattle.squares.specs.ShogiSets.{ShogiPosition}
+use Rattle.squares.specs.internal.ShogiSets.{IsShogiPosition, HasKings, KeepsSets, count_on, holds_king}
+use Rattle.squares.specs.internal.ShogiSets.{holds_kind}
 use Rattle.squares.specs.ShogiOpening.{opening_cell, opening}
 use Rattle.squares.proofs.ShogiCells.{get-shogi_board_of}
 use Rattle.squares.proofs.ShogiCounts.{count_on-cells}

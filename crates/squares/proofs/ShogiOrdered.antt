@@ -12,7 +12,7 @@ use Rattle.std.proofs.lemmas.Grind.{common_steps}
 use Rattle.std.specs.declared.cmp.Ordering.TheVariants.{Less, Equal, Greater}
 use Rattle.squares.specs.declared.shogi.piece.SPiece.{SPiece}
 use Rattle.squares.specs.ShogiBoard.{occupied_cells, shogi_board_of}
-use Rattle.squares.specs.ShogiOrder.{piece_cmp, entry_cmp, board_cmp}
+use Rattle.squares.specs.internal.ShogiOrder.{piece_cmp, entry_cmp, board_cmp}
 
 nat_less : (a b : ℕ) → a < b → nat_cmp a b ≡ Less
 nat_less a b h = grind (arith, common_steps)

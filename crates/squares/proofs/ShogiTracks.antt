@@ -15,11 +15,13 @@ use Rattle.squares.specs.declared.sides.Side.TheVariants.{First, Second}
 use Rattle.squares.specs.declared.shogi.piece.Role.{Role}
 use Rattle.squares.specs.declared.shogi.piece.Role.TheVariants as role
 use Rattle.squares.specs.declared.shogi.piece.SPiece.{SPiece}
-use Rattle.squares.specs.Sides.{same_side, same_side-same, same_side-itself}
-use Rattle.squares.specs.DraughtsMarks.{nat_eq-same}
+use Rattle.squares.specs.Sides.{same_side}
+use Rattle.squares.specs.internal.Sides.{same_side-same, same_side-itself}
+use Rattle.squares.specs.internal.DraughtsMarks.{nat_eq-same}
 use Rattle.squares.specs.ShogiBoard.{ShogiBoard}
-use Rattle.squares.specs.ShogiSamePosition.{same_role, same_role-same, same_role-itself}
-use Rattle.squares.specs.ShogiWords.{Tracks, squares_at, is_side, is_role, side_place, role_place}
+use Rattle.squares.specs.ShogiSamePosition.{same_role}
+use Rattle.squares.specs.internal.ShogiSamePosition.{same_role-same, same_role-itself}
+use Rattle.squares.specs.internal.ShogiWords.{Tracks, squares_at, is_side, is_role, side_place, role_place}
 
 not_true : (b : Bool) → (b ≡ true → ⊥) → b ≡ false
 not_true true h = absurd (h refl)

@@ -1,11 +1,10 @@
 -- A draughts board is a finite map from squares to pieces; a position is a board and the side to move.
-use Rattle.std.specs.Prelude.{ℕ, Bool, false, Option, Some, None, List, [], ◌∷◌}
+use Rattle.std.specs.Prelude.{ℕ, Option, Some, None, List, [], ◌∷◌}
 use Rattle.std.specs.Ordering.{nat_cmp}
 use Rattle.std.specs.FinMap as map
 use Rattle.std.proofs.Common.{suc}
 use Rattle.squares.specs.declared.draughts.piece.DPiece.{DPiece}
 use Rattle.squares.specs.declared.sides.Side.{Side}
-use Rattle.squares.specs.Sides.{same_side}
 
 -- The pieces of a board, by the numbers of their squares.
 abbrev pub Board : Type 0
@@ -25,8 +24,3 @@ occupied n (Some p ∷ cells) = (n, p) ∷ occupied (suc n) cells
 -- The board of a list of 50 cells, in the order of the squares.
 unfoldable pub board_of : List (Option DPiece) → Board
 board_of cells = map.from_entries (occupied 1 cells)
-
--- Whether the cell holds a piece of the side.
-abbrev pub is_of : Side → Option DPiece → Bool
-is_of side None = false
-is_of side (Some q) = same_side q.side side

@@ -1,8 +1,8 @@
 -- Geometry of the draughts board: square numbers 1 to 50, rows, columns and diagonals.
-use Rattle.std.specs.Prelude.{◌≡◌, ℕ, ◌+◌, ◌-◌, ◌*◌, ◌/◌, ◌%◌, ◌≤◌, ◌==◌, ◌||◌, ◌&&◌, nat_le, Option, Some, None, List}
+use Rattle.std.specs.Prelude.{ℕ, ◌+◌, ◌-◌, ◌*◌, ◌/◌, ◌%◌, ◌==◌, ◌||◌, ◌&&◌, nat_le, Option, Some, None, List}
 use Rattle.std.specs.Prelude.{[], ◌∷◌, if◌then◌else◌}
 use Rattle.std.specs.Option.{option_map_or}
-use Rattle.std.proofs.Common.{zero, suc, refl, ap, ◌∙◌, arith}
+use Rattle.std.proofs.Common.{zero, suc}
 use Rattle.squares.specs.declared.draughts.direction.Direction.{Direction}
 use Rattle.squares.specs.declared.draughts.direction.Direction.TheVariants.{UpLeft, UpRight, DownLeft, DownRight}
 
@@ -14,26 +14,9 @@ row_of n = (n - 1) / 5
 abbrev pub column_of : ℕ → ℕ
 column_of n = 2 * ((n - 1) % 5) + (1 - row_of n % 2)
 
--- The number is that of a square, 1 to 50.
-abbrev pub OnBoard : ℕ → Type 0
-OnBoard n = (1 ≤ n) × (n ≤ 50)
-
 -- The number of the dark square at a row and a column.
 abbrev pub number_at : ℕ → ℕ → ℕ
 number_at row column = 5 * row + column / 2 + 1
-
--- A row and a column of a dark square; the top left square is light.
-pub record IsDark (row column : ℕ) : Type 0 where
-  pub row_in : row ≤ 9
-  pub column_in : column ≤ 9
-  pub odd : (row + column) % 2 ≡ 1
-
--- Square m is k rows and k columns from square n in a direction.
-abbrev pub IsMoved : Direction → ℕ → ℕ → ℕ → Type 0
-IsMoved UpLeft k n m = (row_of m + k ≡ row_of n) × (column_of m + k ≡ column_of n)
-IsMoved UpRight k n m = (row_of m + k ≡ row_of n) × (column_of m ≡ column_of n + k)
-IsMoved DownLeft k n m = (row_of m ≡ row_of n + k) × (column_of m + k ≡ column_of n)
-IsMoved DownRight k n m = (row_of m ≡ row_of n + k) × (column_of m ≡ column_of n + k)
 
 -- The next square in a direction from a square on the board, if there is one.
 unfoldable pub neighbor : Direction → ℕ → Option ℕ
@@ -58,16 +41,3 @@ line (suc k) d n = option_map_or (λ m. m ∷ line k d m) (step d n) []
 -- The squares from n in a direction up to the edge of the board, nearest first, without n.
 unfoldable pub ray : Direction → ℕ → List ℕ
 ray d n = line 9 d n
-
-line_suc : (k : ℕ) (d : Direction) (n m : ℕ) → step d n ≡ Some m → line (suc k) d n ≡ m ∷ line k d m
-unfolding line
-line_suc k d n m e = rw e refl
-
-pub line-step : (k j : ℕ) (d : Direction) (n m : ℕ) → step d n ≡ Some m → k ≡ j + 1 → line k d n ≡ m ∷ line j d m
-line-step zero j d n m e h = absurd (omega arith)
-line-step (suc k) j d n m e h = line_suc k d n m e ∙ ap (λ i. m ∷ line i d m) (omega arith)
-
-pub line-edge : (k : ℕ) (d : Direction) (n : ℕ) → step d n ≡ None → line k d n ≡ []
-unfolding line
-line-edge zero d n e = refl
-line-edge (suc k) d n e = rw e refl

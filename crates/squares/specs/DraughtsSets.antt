@@ -1,9 +1,8 @@
 -- Sets of squares, as 50 marks in the order of the squares or as an ascending list.
 use Rattle.std.specs.List.{range_with_len}
-use Rattle.std.specs.Prelude.{◌≡◌, filter, ℕ, Bool, true, cond, ◌&&◌, Option, Some, None, List, [], ◌∷◌}
+use Rattle.std.specs.Prelude.{filter, ℕ, Bool, ◌&&◌, List}
 use Rattle.std.specs.Ordering.{nat_cmp}
 use Rattle.std.specs.FinSet as set
-use Rattle.std.proofs.Common.{suc}
 
 -- A set of squares, by their numbers.
 abbrev pub Squares : Type 0
@@ -16,18 +15,3 @@ ascending s = filter (set.contains s) (range_with_len 1 50)
 -- Whether two sets are equal.
 unfoldable pub same_squares : Squares → Squares → Bool
 same_squares s t = set.is_subset s t && set.is_subset t s
-
--- The marked squares, if the first mark belongs to square n.
-abbrev pub marked : ℕ → List Bool → List ℕ
-marked n [] = []
-marked n (b ∷ bs) = cond b (n ∷ marked (suc n) bs) (marked (suc n) bs)
-
--- The set of a list of 50 marks.
-unfoldable pub squares_of : List Bool → Squares
-squares_of marks = set.from_list (marked 1 marks)
-
--- The result and the remaining set when the least square is popped.
-abbrev pub PopsSquare : Squares → Option ℕ → Squares → Type 0
-PopsSquare before None after = (before ≡ set.empty) × (ascending before ≡ []) × (after ≡ before)
-PopsSquare before (Some n) after = (ascending before ≡ n ∷ ascending after) × (after ≡ set.remove before n)
-    × (set.contains before n ≡ true)

@@ -1,9 +1,5 @@
 -- Geometry of the shogi board: files, ranks, and the index by file, then rank.
-use Rattle.std.specs.Prelude.{ℕ, ◌+◌, ◌-◌, ◌*◌, ◌/◌, ◌%◌, ◌≤◌}
-
--- Files and ranks are 1 to 9.
-abbrev pub OnShogiBoard : ℕ → ℕ → Type 0
-OnShogiBoard file rank = ((1 ≤ file) × (file ≤ 9)) × ((1 ≤ rank) × (rank ≤ 9))
+use Rattle.std.specs.Prelude.{ℕ, ◌+◌, ◌-◌, ◌*◌, ◌/◌, ◌%◌}
 
 -- The index of the square at a file and a rank, from 0.
 abbrev pub shogi_number : ℕ → ℕ → ℕ

@@ -56,12 +56,6 @@ promotes_to kind.Knight = Some role.PromotedKnight
 promotes_to kind.Lance = Some role.PromotedLance
 promotes_to kind.Pawn = Some role.PromotedPawn
 
--- A piece of this kind and promotion exists.
-abbrev pub CanBe : Kind → Bool → Type 0
-CanBe kind.King true = ⊥
-CanBe kind.Gold true = ⊥
-CanBe _ _ = Unit {0}
-
 -- The kind of a piece in hand; the king has none.
 abbrev pub hand_kind : Kind → Option HandKind
 hand_kind kind.King = None

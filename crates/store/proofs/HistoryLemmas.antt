@@ -27,7 +27,8 @@ use Rattle.store_tables.proofs.Proved.{first_held, versions_apart}
 use Rattle.store.specs.declared.club.run.Run.{Run}
 use Rattle.store.specs.declared.fault.StoreFault.{StoreFault}
 use Rattle.club_changes.specs.Steps.{club_step, club_next}
-use Rattle.store.specs.Runs.{club_fold, club_outcomes, club_accepted}
+use Rattle.store.specs.Runs.{club_fold, club_outcomes}
+use Rattle.store.specs.internal.Runs.{club_accepted}
 use Rattle.store.specs.SchemaRuns.{accepted_in, fold_in}
 use Rattle.store_sql.proofs.Proved.{opens_exactly, schema_once}
 use Rattle.store.specs.Histories.{HistoryStep, StepLeadsTo, Place, SessionReaches, HistoryLeadsTo, IsReachable, IsHistory}

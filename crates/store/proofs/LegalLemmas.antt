@@ -3,8 +3,8 @@ use Rattle.std.proofs.Common.{◌≤◌}
 use Rattle.club_requests.specs.Limits.{last_moment}
 use Rattle.club_core.specs.State.{Request}
 use Rattle.club_laws.proofs.Proved.{import-kept, next-legal}
-use Rattle.club_games.specs.CsaLaws.{shogi-reads_games}
-use Rattle.club_games.specs.PdnLaws.{draughts-reads_games}
+use Rattle.club_games.specs.internal.CsaLaws.{shogi-reads_games}
+use Rattle.club_games.specs.internal.PdnLaws.{draughts-reads_games}
 use Rattle.club_rows.specs.Club.{both_games, ClubState, IsClub}
 use Rattle.club_rows.proofs.Proved.{draughts_laws, shogi_laws}
 use Rattle.club_changes.specs.Steps.{club_next}

@@ -15,7 +15,8 @@ use Rattle.sqlite_catalog.proofs.SoundLemmas.{lowered}
 use Rattle.sqlite_schema.specs.Names.{same_name}
 use Rattle.schema_match.specs.Shapes.{answers_as, is_of_club}
 use Rattle.club_rows.specs.Club.{tables}
-use Rattle.store_tables.specs.Contents.{Content, opening}
+use Rattle.store_tables.specs.Contents.{Content}
+use Rattle.store_tables.specs.internal.Contents.{opening}
 use Rattle.store_tables.specs.Tables.{event_rules}
 
 skipped : (test : Bool) {rows : List Row} → rows ≡ [] → (if test then [] else rows) ≡ []

@@ -6,11 +6,12 @@ use Rattle.std.proofs.lemmas.Option.{same_Some}
 use Rattle.sqlite.specs.Order.{Row, column}
 use Rattle.sqlite.specs.State.{State}
 use Rattle.sqlite.specs.Tree.{Trees}
-use Rattle.store_tables.specs.Cells.{event_rule_cells, meta_cells}
-use Rattle.store_tables.specs.Changed.{widened}
-use Rattle.store_tables.specs.Changes.{Alters, HaveSame}
-use Rattle.store_tables.specs.Content.{put}
-use Rattle.store_tables.specs.Contents.{put_each, put_in}
+use Rattle.store_tables.specs.internal.Cells.{event_rule_cells, meta_cells}
+use Rattle.store_tables.specs.internal.Changed.{widened}
+use Rattle.store_tables.specs.Changes.{HaveSame}
+use Rattle.store_tables.specs.internal.Changes.{Alters}
+use Rattle.store_tables.specs.internal.Content.{put}
+use Rattle.store_tables.specs.internal.Contents.{put_each, put_in}
 use Rattle.store_tables.specs.Over.{HoldsClubAmong, LeavesBeside, Neighbours}
 use Rattle.store_tables.specs.Placed.{HasTablesOf}
 use Rattle.store_tables.specs.Tables.{schema_number}
@@ -20,10 +21,10 @@ use Rattle.store_tables.specs.declared.rows.EventRuleRow.{EventRuleRow}
 use Rattle.store_tables.specs.declared.rows.MetaRow.{MetaRow}
 use Rattle.store_tables.specs.declared.rows.Rows.{Rows}
 use Rattle.sqlite.specs.declared.types.Value.TheVariants.{Int}
-use Rattle.club_check.specs.Places.{IsRegisterOf}
+use Rattle.club_check.specs.internal.Places.{IsRegisterOf}
 use Rattle.store_tables.proofs.Proved.{altered, each_at, same_by}
 use Rattle.club_changes.proofs.Proved.{◌&◌, ids_agree, ids_same, numbered_had}
-use Rattle.club_changes.specs.Steps.{AreSame}
+use Rattle.club_changes.specs.internal.Steps.{AreSame}
 use Rattle.club_core.specs.Events.{Event}
 use Rattle.club_rows.specs.Club.{ClubState, tables}
 use Rattle.club_rows.specs.FirstSchema.{first_tables}

@@ -1,8 +1,8 @@
 pub mod Clubs
 pub mod Asking
 pub mod FaultText
-pub mod Faults
 pub mod Histories
 pub mod Runs
 pub mod SchemaRuns
 pub mod Upgrades
+pub mod internal

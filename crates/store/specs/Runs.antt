@@ -12,7 +12,3 @@ club_fold = machine.fold both_games
 -- the outcome of each request
 abbrev pub club_outcomes : ClubState → List Request → List (Outcome ClubState)
 club_outcomes = machine.outcomes both_games
-
--- the accepted requests
-abbrev pub club_accepted : ClubState → List Request → List Request
-club_accepted = machine.accepted_of both_games

@@ -4,7 +4,7 @@ ghost use Rattle.std.specs.Prelude.{◌≡◌, ◌≤◌, ◌<◌, ℕ, length, 
 ghost use Rattle.std.specs.Prelude.{string_bytes};
 ghost use Rattle.sqlite.specs.State.{HasCleanDisk};
 ghost use Rattle.sqlite.specs.Held.{state};
-ghost use Rattle.club_core.specs.Answer.{members_of, challenge_outcome_of};
+ghost use Rattle.club_core.specs.internal.Answer.{members_of, challenge_outcome_of};
 ghost use Rattle.club_core.specs.Challenges.{challenge_by, answer_step};
 ghost use Rattle.club_core.specs.Members.{find_id};
 ghost use Rattle.club_requests.specs.Outcome.{by_member};

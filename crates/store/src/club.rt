@@ -18,7 +18,7 @@ ghost use Rattle.club_check.specs.RightTables.{NamesFirstDamaged};
 ghost use Rattle.club_check.specs.Versions.{HasClub, HoldsRows};
 ghost use Rattle.club_rows.specs.FirstSchema.{IsFirstClub, first_tables};
 ghost use Rattle.store.specs.Histories.{IsReachable, IsHistory, answered_session, cut_session};
-ghost use Rattle.store_tables.specs.Changed.{changed};
+ghost use Rattle.store_tables.specs.internal.Changed.{changed};
 ghost use Rattle.club_changes.specs.Whole.{IsAccepted};
 ghost use Rattle.club_core.specs.Answer.{answered, outcome_of};
 ghost use Rattle.club_core.specs.State.{opening_state};

@@ -9,8 +9,8 @@ ghost use Rattle.store_tables.specs.Over.{HasRows};
 ghost use Rattle.store_tables.specs.Reading.{Reads};
 ghost use Rattle.club_rows.specs.Club.{ClubState, IsClub, tables};
 ghost use Rattle.club_changes.specs.Steps.{request, club_step};
-ghost use Rattle.club_changes.specs.Steps.{IsDecided};
-ghost use Rattle.club_changes.specs.Whole.{IsWhole};
+ghost use Rattle.club_changes.specs.internal.Steps.{IsDecided};
+ghost use Rattle.club_changes.specs.internal.Whole.{IsWhole};
 
 use crate::decides::Decide;
 use crate::sweep::Sweep;

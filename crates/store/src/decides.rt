@@ -7,8 +7,8 @@ ghost use Rattle.club_core.specs.State.{Command};
 ghost use Rattle.club_rows.specs.Club.{ClubState, IsClub, tables};
 ghost use Rattle.store_tables.specs.Over.{HasRows};
 ghost use Rattle.store_tables.specs.Reading.{Reads};
-ghost use Rattle.club_changes.specs.Steps.{caller_step, IsDecided};
-ghost use Rattle.club_changes.specs.Whole.{IsWhole};
+ghost use Rattle.club_changes.specs.internal.Steps.{caller_step, IsDecided};
+ghost use Rattle.club_changes.specs.internal.Whole.{IsWhole};
 
 use clocks::Moment;
 use club_changes::CommandEffect;

@@ -35,7 +35,7 @@ impl Error for StoreFault {}
 
 impl From<LookupFault> for StoreFault {
     ghost use Rattle.std.specs.Prelude.{◌≡◌};
-    ghost use Rattle.store.specs.Faults.{called};
+    ghost use Rattle.store.specs.internal.Faults.{called};
 
     ghost from_gives = { λ fault given. given ≡ called fault };
 
@@ -59,7 +59,7 @@ pub enum AskFault {
 /// Writes the number and the name: `77 Output`.
 impl fmt::Display for AskFault {
     ghost use Rattle.std.specs.Prelude.{Some};
-    ghost use Rattle.store.specs.FaultText.{ask_fault_text};
+    ghost use Rattle.store.specs.internal.FaultText.{ask_fault_text};
 
     ghost output = { λ fault. Some (ask_fault_text fault) };
 

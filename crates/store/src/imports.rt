@@ -4,8 +4,10 @@ ghost use Rattle.std.specs.Prelude.{◌≢◌, ◌≤◌, length, Option, Some, 
 ghost use Rattle.std.specs.Prelude.{string_bytes};
 ghost use Rattle.sqlite.specs.State.{HasCleanDisk};
 ghost use Rattle.sqlite.specs.Held.{state};
-ghost use Rattle.club_rules.specs.Records.{recorded_of, IsGameByRules};
-ghost use Rattle.club_core.specs.Answer.{events_of, import_of};
+ghost use Rattle.club_rules.specs.Records.{IsGameByRules};
+ghost use Rattle.club_rules.specs.internal.Records.{recorded_of};
+ghost use Rattle.club_core.specs.Answer.{import_of};
+ghost use Rattle.club_core.specs.internal.Answer.{events_of};
 ghost use Rattle.club_core.specs.Game.{Game};
 ghost use Rattle.club_core.specs.Imports.{imported};
 ghost use Rattle.club_core.specs.State.{import_record, place, terms_at};
@@ -15,8 +17,8 @@ ghost use Rattle.store_tables.specs.Contents.{Content};
 ghost use Rattle.store_tables.specs.Reading.{Reads};
 ghost use Rattle.store_tables.specs.Names.{tree_of};
 ghost use Rattle.store_tables.specs.declared.names.Table.TheVariants.{Scores};
-ghost use Rattle.club_changes.specs.Importing.{IsOfKind, IsImportedIn, PutsNewGame, imported_by};
-ghost use Rattle.club_changes.specs.Whole.{IsWhole};
+ghost use Rattle.club_changes.specs.internal.Importing.{IsOfKind, IsImportedIn, PutsNewGame, imported_by};
+ghost use Rattle.club_changes.specs.internal.Whole.{IsWhole};
 
 use crate::decides::Decide;
 use clocks::Moment;

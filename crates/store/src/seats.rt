@@ -4,15 +4,15 @@ ghost use Rattle.std.specs.Prelude.{◌≡◌, ◌≤◌, ℕ, List, length, IfO
 ghost use Rattle.sqlite.specs.State.{HasCleanDisk};
 ghost use Rattle.sqlite.specs.Held.{state};
 ghost use Rattle.club_requests.specs.Outcome.{by_officer};
-ghost use Rattle.club_core.specs.Answer.{members_of, events_of, seating_of};
+ghost use Rattle.club_core.specs.internal.Answer.{members_of, events_of, seating_of};
 ghost use Rattle.club_core.specs.Seats.{seat_step};
 ghost use Rattle.club_core.specs.State.{game_under};
 ghost use Rattle.club_core.specs.State as club;
 ghost use Rattle.store_tables.specs.Over.{HasRows};
 ghost use Rattle.store_tables.specs.Reading.{Reads};
 ghost use Rattle.club_rows.specs.Club.{ClubState, IsClub, tables};
-ghost use Rattle.club_changes.specs.Steps.{caller_step, IsDecided};
-ghost use Rattle.club_changes.specs.Whole.{IsWhole};
+ghost use Rattle.club_changes.specs.internal.Steps.{caller_step, IsDecided};
+ghost use Rattle.club_changes.specs.internal.Whole.{IsWhole};
 
 use crate::decides::Decide;
 use clocks::Moment;

@@ -6,7 +6,7 @@ ghost use Rattle.sqlite.specs.Held.{state};
 ghost use Rattle.sqlite_trees.specs.View.{doubt};
 ghost use Rattle.sqlite.specs.declared.types.Value.TheVariants.{Int};
 ghost use Rattle.store_tables.specs.Placed.{HasClubTables, HasTablesOf};
-ghost use Rattle.store_tables.specs.Cells.{meta_cells};
+ghost use Rattle.store_tables.specs.internal.Cells.{meta_cells};
 ghost use Rattle.store_tables.specs.Club.{IsExactly};
 ghost use Rattle.store_tables.specs.Over.{HoldsClubAmong, IsFirstBeside, LeavesBeside, LeavesFirst};
 ghost use Rattle.store_tables.specs.Reading.{KeepsMay, OnlyReads};

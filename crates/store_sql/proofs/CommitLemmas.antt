@@ -4,7 +4,8 @@ use Rattle.sqlite.specs.Held.{Held, state}
 use Rattle.sqlite.specs.State.{Shows}
 use Rattle.store_tables.specs.Club.{Leaves}
 use Rattle.store_tables.specs.Contents.{Content, Holds, IsExactlyEmpty}
-use Rattle.store_tables.specs.Over.{HoldsBeside, HoldsFirst, HoldsClubAmong, IsFirstBeside, LeavesBeside, Neighbours}
+use Rattle.store_tables.specs.Over.{HoldsClubAmong, IsFirstBeside, LeavesBeside, Neighbours}
+use Rattle.store_tables.specs.internal.Over.{HoldsBeside, HoldsFirst}
 use Rattle.store_tables.specs.Over.{alone, over}
 use Rattle.store_tables.specs.Placed.{TakesClub}
 use Rattle.store_tables.specs.Room.{HasRoom, IsWithoutClub}

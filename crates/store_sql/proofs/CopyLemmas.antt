@@ -8,17 +8,19 @@ use Rattle.sqlite_value.proofs.OrderLemmas.{value_cmp_total}
 use Rattle.sqlite.specs.Order.{Row, column}
 use Rattle.sqlite.specs.State.{State}
 use Rattle.sqlite_rules.specs.Lists.{Has}
-use Rattle.store_tables.specs.Cells.{meta_cells}
-use Rattle.store_tables.specs.Changed.{changed, maybe_row}
-use Rattle.store_tables.specs.Changes.{HaveSame, AreSame, Alters}
+use Rattle.store_tables.specs.internal.Cells.{meta_cells}
+use Rattle.store_tables.specs.internal.Changed.{changed, maybe_row}
+use Rattle.store_tables.specs.Changes.{HaveSame}
+use Rattle.store_tables.specs.internal.Changes.{AreSame, Alters}
 use Rattle.store_tables.specs.Content.{same_key}
-use Rattle.store_tables.specs.Contents.{Content, opening, opening_meta}
+use Rattle.store_tables.specs.Contents.{Content}
+use Rattle.store_tables.specs.internal.Contents.{opening, opening_meta}
 use Rattle.store_tables.specs.Over.{HasRows}
 use Rattle.store_tables.specs.Tables.{club_schema}
 use Rattle.store_tables.specs.declared.rows.Changes.{Changes}
 use Rattle.store_tables.specs.declared.rows.MetaRow.{MetaRow}
 use Rattle.store_tables.proofs.Proved.{equal_from, tables_altered}
-use Rattle.store_sql.specs.Copies.{AreAll}
+use Rattle.store_sql.specs.internal.Copies.{AreAll}
 use Rattle.store_sql.proofs.KeyLemmas.{HaveKeys, meta_keys, member_keys, event_keys, event_rule_keys, challenge_keys}
 use Rattle.store_sql.proofs.KeyLemmas.{move_keys, game_keys, seen_keys, score_keys}
 

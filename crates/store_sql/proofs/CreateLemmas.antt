@@ -13,15 +13,17 @@ use Rattle.sqlite.specs.declared.error.Error.{Error}
 use Rattle.sqlite.proofs.Callers.{statement_of}
 use Rattle.sqlite_catalog.specs.Change.{created, is_used}
 use Rattle.store_tables.specs.Sql.{understood, Row, Schema, State, Table}
-use Rattle.store_tables.specs.Contents.{Holds, Ran}
+use Rattle.store_tables.specs.Contents.{Holds}
+use Rattle.store_tables.specs.internal.Contents.{Ran}
 use Rattle.store_tables.specs.Names.{in_order, table_name}
 use Rattle.store_tables.specs.Over.{Neighbours}
 use Rattle.store_tables.specs.Placed.{HasTables, HasTableAt, TakesClub}
-use Rattle.store_tables.specs.Put.{on_key}
-use Rattle.store_tables.specs.Reading.{IsNoInput}
-use Rattle.store_tables.specs.Room.{AreUnused, HasRoom, Makes, made_in}
+use Rattle.store_tables.specs.internal.Put.{on_key}
+use Rattle.store_tables.specs.internal.Reading.{IsNoInput}
+use Rattle.store_tables.specs.Room.{AreUnused, HasRoom, made_in}
+use Rattle.store_tables.specs.internal.Room.{Makes}
 use Rattle.store_tables.specs.Tables.{made_as, standing}
-use Rattle.store_tables.specs.Texts.{create_of, put_text}
+use Rattle.store_tables.specs.internal.Texts.{create_of, put_text}
 use Rattle.store_tables.specs.declared.names.Table as of_club
 use Rattle.store_tables.specs.declared.names.Table.TheVariants.{Meta}
 use Rattle.store_tables.specs.declared.names.Version.TheVariants.{First, Current}

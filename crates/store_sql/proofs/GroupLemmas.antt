@@ -15,14 +15,15 @@ use Rattle.sqlite_sql.specs.Term.{holds}
 use Rattle.sqlite_sql.specs.Query.{IsAnswer, Output, output}
 use Rattle.sqlite_sql.specs.Program.{overlay}
 use Rattle.store_tables.specs.Content.{cells, same_key, Keeps}
-use Rattle.store_tables.specs.Put.{selects}
+use Rattle.store_tables.specs.internal.Put.{selects}
 use Rattle.store_tables.specs.Placed.{club_trees}
-use Rattle.store_tables.specs.Queries.{Finds}
+use Rattle.store_tables.specs.internal.Queries.{Finds}
 use Rattle.store_tables.proofs.Proved.{has_index, has_mapped, has_turned}
 use Rattle.sqlite_rules.proofs.ListLemmas.{all_has, has_filtered}
 use Rattle.store_sql.specs.declared.fault.ReadFault.{ReadFault}
 use Rattle.store_sql.specs.declared.fault.ReadFault.TheVariants.{WrongType, Memory}
-use Rattle.store_sql.specs.Read.{AreReadOf, Blames, beginning_with}
+use Rattle.store_sql.specs.Read.{beginning_with}
+use Rattle.store_sql.specs.internal.Read.{AreReadOf, Blames}
 
 passing : {A B : Type 0} (p : A → Bool) (g : A → B) (xs : List A)
     → flat_map (λ x. if p x then g x ∷ [] else []) xs ≡ map g (filter p xs)

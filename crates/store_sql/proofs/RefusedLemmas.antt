@@ -30,7 +30,7 @@ use Rattle.sqlite.specs.State.{ExecutesIn, ExecutesInside, IsNotRun, RunsCommand
 use Rattle.sqlite.specs.Steps.{FailsToCommit}
 use Rattle.sqlite.proofs.Callers.{IsPlain, command_of, statement_of}
 use Rattle.store_tables.specs.Sql.{Database, Table, Trees, State, understood}
-use Rattle.store_tables.specs.Reading.{IsNoInput}
+use Rattle.store_tables.specs.internal.Reading.{IsNoInput}
 
 pub store_known : (cause : StoreError) → IsNoInput (store_error cause)
 store_known OutOfMemory why is = cc

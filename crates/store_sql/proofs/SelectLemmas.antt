@@ -16,25 +16,29 @@ use Rattle.sqlite.specs.declared.error.Error.{Error}
 use Rattle.sqlite.specs.State.{FailsToQuery, CommitsShowing}
 use Rattle.sqlite.proofs.Callers.{IsPlain, reads_as}
 use Rattle.store_tables.specs.Over.{HasRows}
-use Rattle.store_tables.specs.Placed.{AsksAnywhere, HasTableAt, club_trees}
+use Rattle.store_tables.specs.Placed.{HasTableAt, club_trees}
+use Rattle.store_tables.specs.internal.Placed.{AsksAnywhere}
 use Rattle.store_tables.specs.Changes.{HaveSame}
 use Rattle.store_tables.specs.Content.{Keeps, cells}
-use Rattle.store_tables.specs.Contents.{Content, Stores, AreThose}
-use Rattle.store_tables.specs.Queries.{AreShownBy, Finds, IsSelect, by_others}
-use Rattle.store_tables.specs.Reading.{by_columns, ReturnsRows, TellsIds, IsNoInput, KeepsContent, KeepsMay, Reads}
+use Rattle.store_tables.specs.Contents.{Content, Stores}
+use Rattle.store_tables.specs.internal.Contents.{AreThose}
+use Rattle.store_tables.specs.internal.Queries.{AreShownBy, Finds, IsSelect, by_others}
+use Rattle.store_tables.specs.Reading.{KeepsContent, KeepsMay, Reads}
+use Rattle.store_tables.specs.internal.Reading.{by_columns, ReturnsRows, TellsIds, IsNoInput}
 use Rattle.store_tables.proofs.Proved.{select_unchanged, only_reads, reads_by, unchanged_exactly, tells, tells_ids}
 use Rattle.store_tables.proofs.Proved.{tells_first, finds, no_input, ids_of, each_shown, one_list, sorted_rows, has_map}
 use Rattle.store_tables.proofs.Proved.{in_order as in_order_by}
 use Rattle.store_tables.proofs.Proved.{places_rise, same_length, got, alone_takes, in_all, rows_standing, rows_stored}
 use Rattle.store_tables.proofs.Proved.{cells_are, keeps_moved, told_here, tree_is, trees_here}
 use Rattle.store_tables.specs.Tables.{club_schema, made_as, standing}
-use Rattle.store_tables.specs.Texts.{all_text, ids_text, by_first_text, question_text}
+use Rattle.store_tables.specs.internal.Texts.{all_text, ids_text, by_first_text, question_text}
 use Rattle.store_tables.specs.Names.{in_order, tree_of}
 use Rattle.store_tables.specs.declared.names.Table as of_club
 use Rattle.store_tables.specs.declared.names.Table.TheVariants.{Meta}
 use Rattle.store_sql.specs.declared.fault.ReadFault.{ReadFault}
 use Rattle.store_sql.specs.declared.fault.ReadFault.TheVariants.{WrongType}
-use Rattle.store_sql.specs.Read.{AreReadOf, BeginWithPlaces, beginning_with, was_read}
+use Rattle.store_sql.specs.Read.{beginning_with}
+use Rattle.store_sql.specs.internal.Read.{AreReadOf, BeginWithPlaces, was_read}
 use Rattle.store_sql.proofs.GroupLemmas.{each_found}
 
 -- a connection that only read, and answered, holds what it held

@@ -9,10 +9,10 @@ use Rattle.sqlite.specs.declared.error.Error.{Error}
 use Rattle.sqlite_catalog.specs.Change.{is_used}
 use Rattle.sqlite_schema.specs.Names.{table_named}
 use Rattle.store_tables.specs.Names.{table_name}
-use Rattle.store_tables.specs.Queries.{IsSelect}
-use Rattle.store_tables.specs.Reading.{IsNoInput}
+use Rattle.store_tables.specs.internal.Queries.{IsSelect}
+use Rattle.store_tables.specs.internal.Reading.{IsNoInput}
 use Rattle.store_tables.specs.Tables.{standing}
-use Rattle.store_tables.specs.Texts.{by_first_text}
+use Rattle.store_tables.specs.internal.Texts.{by_first_text}
 use Rattle.store_tables.specs.declared.names.Table.TheVariants.{EventRules}
 use Rattle.store_tables.proofs.Proved.{rules_missing, select_plain}
 use Rattle.store_sql.proofs.RefusedLemmas.{store_known}

@@ -1,4 +1,2 @@
-pub mod Copies
-pub mod Filled
 pub mod Read
-pub mod Widened
+pub mod internal

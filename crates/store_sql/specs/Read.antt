@@ -1,57 +1,10 @@
 -- The results of reading a table, and what a fault implies about its rows.
-use Rattle.std.specs.Prelude.{Bool, true, false, Result, Ok, Err, ◌≡◌, ◌⊎◌, ℕ, ℤ, ◌+◌, ◌<◌, pos, List, [], ◌∷◌, map}
-use Rattle.std.specs.Prelude.{filter, length, get_or}
-use Rattle.std.specs.List.{AllByRecursion}
-use Rattle.std.specs.List.Sorted.{IsSorted, IsPermutation}
-use Rattle.sqlite.specs.Order.{Row, column}
-use Rattle.sqlite.specs.Table.{Table}
-use Rattle.sqlite.specs.State.{State, IsUnchanged}
+use Rattle.std.specs.Prelude.{ℤ, List, [], ◌∷◌}
+use Rattle.std.specs.Prelude.{filter}
+use Rattle.sqlite.specs.Order.{Row}
 use Rattle.sqlite.specs.declared.types.Value.TheVariants.{Int}
-use Rattle.store_tables.specs.Content.{Keeps, AreApart, cells, same_key}
-use Rattle.store_tables.specs.Placed.{club_trees}
-use Rattle.store_tables.specs.Queries.{by_others}
-use Rattle.store_tables.specs.Reading.{by_columns}
-use Rattle.store_sql.specs.declared.fault.ReadFault.{ReadFault}
-use Rattle.store_sql.specs.declared.fault.ReadFault.TheVariants.{WrongType, Store, Memory}
-
--- These are exactly the rows of the table, in the order of the key; the connection is unchanged.
-pub record IsReadAs (table : Table) (width : ℕ) (rows : List Row) (old new : State) : Type 0 where
-  pub keeps : Keeps table (club_trees old.now) rows
-  pub once : IsPermutation (map (cells table) (club_trees old.now table.tree)) rows
-  pub apart : AreApart (club_trees old.now table.tree)
-  pub sorted : IsSorted (by_columns width) rows
-  pub same : IsUnchanged old new
-
--- The table has this many rows with distinct rowids; the connection is unchanged.
-pub record AreCounted (tree count : ℕ) (old new : State) : Type 0 where
-  pub apart : AreApart (club_trees old.now tree)
-  pub number : count ≡ length (club_trees old.now tree)
-  pub same : IsUnchanged old new
+use Rattle.store_tables.specs.Content.{same_key}
 
 -- the rows whose first column is this number
 abbrev pub beginning_with : ℤ → List Row → List Row
 beginning_with n rows = filter (λ x. same_key (0 ∷ []) x (Int n ∷ [])) rows
-
--- These are exactly the rows of the table whose first column is this number, in the order of the rest of the key; the
--- connection is unchanged.
-pub record AreReadOf (table : Table) (width : ℕ) (n : ℤ) (rows : List Row) (old new : State) : Type 0 where
-  pub once : IsPermutation (beginning_with n (map (cells table) (club_trees old.now table.tree))) rows
-  pub sorted : IsSorted (by_others width) rows
-  pub same : IsUnchanged old new
-
--- The fault has a cause: a call failed, memory ran out, or a row has a value of a wrong type.
-abbrev pub Blames : Table → (Row → Type 0) → State → ReadFault → Type 0
-Blames table IsTyped old fault =
-    (fault ≡ Store) ⊎ ((fault ≡ Memory) ⊎ ((fault ≡ WrongType)
-    × ((rows : List Row) → Keeps table (club_trees old.now) rows → AreApart (club_trees old.now table.tree)
-    → ¬ AllByRecursion IsTyped rows)))
-
--- the ids of the rows are 1, 2, 3 and so on
-abbrev pub BeginWithPlaces : List Row → Type 0
-BeginWithPlaces rows = (k : ℕ) → k < length rows → column (get_or rows k []) 0 ≡ Int (pos (k + 1))
-
--- The rows were read, or the fault is a value of a wrong type.
-abbrev pub was_read : {T : Type 0} → Result T ReadFault → Bool
-was_read (Ok rows) = true
-was_read (Err WrongType) = true
-was_read (Err fault) = false

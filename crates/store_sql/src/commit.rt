@@ -4,10 +4,11 @@ ghost use Rattle.std.specs.Prelude.{◌≡◌, ◌≤◌, ◌⊎◌, false, [], 
 ghost use Rattle.sqlite.specs.State.{HasCleanDisk, Survives};
 ghost use Rattle.sqlite.specs.Held.{state};
 ghost use Rattle.sqlite_trees.specs.View.{doubt};
-ghost use Rattle.store_tables.specs.Over.{HoldsBeside, HoldsClubAmong, LeavesBeside, StepsBeside};
+ghost use Rattle.store_tables.specs.Over.{HoldsClubAmong, LeavesBeside};
+ghost use Rattle.store_tables.specs.internal.Over.{HoldsBeside, StepsBeside};
 ghost use Rattle.store_tables.specs.Placed.{TakesClub};
 ghost use Rattle.store_tables.specs.declared.names.Version.TheVariants.{Current};
-ghost use Rattle.store_tables.specs.Changed.{people_put, play_put, counts_put, meta_put, changed};
+ghost use Rattle.store_tables.specs.internal.Changed.{people_put, play_put, counts_put, meta_put, changed};
 
 use crate::upsert::{Upsert, put_all};
 use sqlite::{Alter, Connection, Error, Transaction};

@@ -4,13 +4,14 @@ ghost use Rattle.std.specs.Prelude.{◌≡◌, ◌≤◌, ◌⊎◌, false, IsTr
 ghost use Rattle.sqlite.specs.State.{HasCleanDisk, Survives};
 ghost use Rattle.sqlite.specs.Held.{state};
 ghost use Rattle.sqlite_trees.specs.View.{doubt};
-ghost use Rattle.store_tables.specs.Changed.{changed};
+ghost use Rattle.store_tables.specs.internal.Changed.{changed};
 ghost use Rattle.store_tables.specs.Club.{IsExactly, Leaves};
-ghost use Rattle.store_tables.specs.Contents.{IsExactlyEmpty, IsEmpty, opening};
+ghost use Rattle.store_tables.specs.Contents.{IsExactlyEmpty, IsEmpty};
+ghost use Rattle.store_tables.specs.internal.Contents.{opening};
 ghost use Rattle.store_tables.specs.Reading.{KeepsMay};
 ghost use Rattle.store_tables.specs.Placed.{HasTables};
 ghost use Rattle.store_tables.specs.declared.names.Version.TheVariants.{First};
-ghost use Rattle.store_sql.specs.Filled.{FillsWith};
+ghost use Rattle.store_sql.specs.internal.Filled.{FillsWith};
 
 use crate::commit::put_changes;
 use crate::make::create_inside;

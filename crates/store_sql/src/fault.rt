@@ -1,7 +1,7 @@
 //! Faults of reading rows.
 
 ghost use Rattle.std.specs.Prelude.{◌≡◌, true, false};
-ghost use Rattle.store_tables.specs.Reading.{IsNoInput};
+ghost use Rattle.store_tables.specs.internal.Reading.{IsNoInput};
 
 use sqlite::Error;
 

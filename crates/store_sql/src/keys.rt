@@ -5,7 +5,7 @@ ghost use Rattle.sqlite.specs.Order.{Row as Cells};
 ghost use Rattle.sqlite.specs.State.{HasCleanDisk};
 ghost use Rattle.sqlite.specs.Held.{state};
 ghost use Rattle.sqlite.specs.declared.types.Value.TheVariants.{Null, Int, Text};
-ghost use Rattle.store_tables.specs.Contents.{AreThose};
+ghost use Rattle.store_tables.specs.internal.Contents.{AreThose};
 ghost use Rattle.store_tables.specs.Over.{HasRows};
 ghost use Rattle.store_tables.specs.Reading.{Reads};
 

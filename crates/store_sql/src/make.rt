@@ -4,12 +4,15 @@ ghost use Rattle.std.specs.Prelude.{◌≡◌, ◌≤◌, ◌⊎◌, ℕ, false,
 ghost use Rattle.sqlite.specs.State.{ExecutesInside, HasCleanDisk, Survives};
 ghost use Rattle.sqlite.specs.Held.{state};
 ghost use Rattle.sqlite_trees.specs.View.{doubt};
-ghost use Rattle.store_tables.specs.Reading.{IsNoInput, KeepsMay};
-ghost use Rattle.store_tables.specs.Contents.{Holds, Ran, IsExactlyEmpty, IsEmpty, opening};
+ghost use Rattle.store_tables.specs.Reading.{KeepsMay};
+ghost use Rattle.store_tables.specs.internal.Reading.{IsNoInput};
+ghost use Rattle.store_tables.specs.Contents.{Holds, IsExactlyEmpty, IsEmpty};
+ghost use Rattle.store_tables.specs.internal.Contents.{Ran, opening};
 ghost use Rattle.store_tables.specs.Club.{IsExactly, Leaves};
 ghost use Rattle.store_tables.specs.Over.{HoldsClubAmong, LeavesBeside};
 ghost use Rattle.store_tables.specs.Placed.{HasTables};
-ghost use Rattle.store_tables.specs.Room.{Fills, HasRoom, IsWithoutClub, LeavesNoClub, Makes};
+ghost use Rattle.store_tables.specs.Room.{HasRoom, IsWithoutClub, LeavesNoClub};
+ghost use Rattle.store_tables.specs.internal.Room.{Fills, Makes};
 ghost use Rattle.store_tables.specs.declared.names.Version.TheVariants.{First};
 
 use crate::upsert::put_meta;

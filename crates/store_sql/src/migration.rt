@@ -5,13 +5,14 @@ ghost use Rattle.sqlite.specs.State.{HasCleanDisk, IsUnchanged, Survives};
 ghost use Rattle.sqlite.specs.Held.{state};
 ghost use Rattle.sqlite_catalog.specs.Change.{is_used};
 ghost use Rattle.sqlite_trees.specs.View.{doubt};
-ghost use Rattle.store_tables.specs.Changed.{widened};
+ghost use Rattle.store_tables.specs.internal.Changed.{widened};
 ghost use Rattle.store_tables.specs.Names.{table_name, tree_of};
-ghost use Rattle.store_tables.specs.Over.{HoldsFirst, HoldsClubAmong, IsFirstBeside, LeavesBeside, LeavesFirst};
+ghost use Rattle.store_tables.specs.Over.{HoldsClubAmong, IsFirstBeside, LeavesBeside, LeavesFirst};
+ghost use Rattle.store_tables.specs.internal.Over.{HoldsFirst};
 ghost use Rattle.store_tables.specs.Placed.{HasTableAt};
 ghost use Rattle.store_tables.specs.Reading.{Reads};
 ghost use Rattle.store_tables.specs.declared.names.Table.TheVariants.{EventRules};
-ghost use Rattle.store_sql.specs.Widened.{WidensTo};
+ghost use Rattle.store_sql.specs.internal.Widened.{WidensTo};
 
 use crate::fault::{ReadFault, is_refused};
 use crate::make::make;

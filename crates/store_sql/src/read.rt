@@ -8,12 +8,13 @@ ghost use Rattle.sqlite.specs.Held.{state};
 ghost use Rattle.sqlite.specs.declared.types.Value.TheVariants.{Int};
 ghost use Rattle.store_tables.specs.Changes.{HaveSame};
 ghost use Rattle.store_tables.specs.Content.{AreApart};
-ghost use Rattle.store_tables.specs.Contents.{AreThose};
+ghost use Rattle.store_tables.specs.internal.Contents.{AreThose};
 ghost use Rattle.store_tables.specs.Over.{HasRows};
 ghost use Rattle.store_tables.specs.Placed.{HasTableAt, club_trees};
-ghost use Rattle.store_tables.specs.Queries.{by_others};
-ghost use Rattle.store_tables.specs.Reading.{AreIds, by_columns, IsNoInput, Reads, ReturnsRows, TellsIds};
-ghost use Rattle.store_sql.specs.Read.{AreCounted, AreReadOf, IsReadAs, Blames, BeginWithPlaces, was_read};
+ghost use Rattle.store_tables.specs.internal.Queries.{by_others};
+ghost use Rattle.store_tables.specs.Reading.{Reads};
+ghost use Rattle.store_tables.specs.internal.Reading.{AreIds, by_columns, IsNoInput, ReturnsRows, TellsIds};
+ghost use Rattle.store_sql.specs.internal.Read.{AreCounted, AreReadOf, IsReadAs, Blames, BeginWithPlaces, was_read};
 
 use crate::fault::{ReadFault, TableFault, is_refused};
 use crate::texts::Select;

@@ -3,13 +3,13 @@
 ghost use Rattle.std.specs.Prelude.{◌≡◌, ◌∷◌, [], None, Some, pos, IfOk, IfSome, is_ok};
 ghost use Rattle.sqlite.specs.State.{HasCleanDisk};
 ghost use Rattle.sqlite.specs.Held.{state};
-ghost use Rattle.store_tables.specs.Cells.{meta_cells};
+ghost use Rattle.store_tables.specs.internal.Cells.{meta_cells};
 ghost use Rattle.store_tables.specs.Changes.{HaveSame};
 ghost use Rattle.store_tables.specs.Over.{HasRows};
 ghost use Rattle.store_tables.specs.Reading.{Reads};
 ghost use Rattle.store_tables.specs.Names.{tree_of};
 ghost use Rattle.store_tables.specs.declared.names.Table.TheVariants.{Meta};
-ghost use Rattle.store_sql.specs.Copies.{AreAll, ArePeople, ArePlay};
+ghost use Rattle.store_sql.specs.internal.Copies.{AreAll, ArePeople, ArePlay};
 
 use crate::{TableFault, list};
 use sqlite::{Alter, Connection};

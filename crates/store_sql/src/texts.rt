@@ -7,7 +7,7 @@ ghost use Rattle.sqlite.specs.Schema.{Schema};
 ghost use Rattle.sqlite.specs.Table.{Table};
 ghost use Rattle.sqlite_trees.specs.Tree.{rowid};
 ghost use Rattle.store_tables.specs.Content.{cells as shown};
-ghost use Rattle.store_tables.specs.Queries.{AreShownBy};
+ghost use Rattle.store_tables.specs.internal.Queries.{AreShownBy};
 ghost use Rattle.store_tables.specs.Placed.{HasTableAt};
 ghost use Rattle.store_tables.specs.Tables.{made_as, standing};
 ghost use Rattle.store_tables.specs.declared.names.Table as of_club;

@@ -3,10 +3,10 @@
 ghost use Rattle.std.specs.Prelude.{◌≡◌, ℕ, List, [], ◌∷◌, IsTrue, IfErr, OnOk, map};
 ghost use Rattle.sqlite.specs.State.{HasCleanDisk, Survives};
 ghost use Rattle.sqlite.specs.Held.{state};
-ghost use Rattle.store_tables.specs.Contents.{put_in, put_each};
-ghost use Rattle.store_tables.specs.Cells.{meta_cells};
-ghost use Rattle.store_tables.specs.Over.{StepsBeside};
-ghost use Rattle.store_tables.specs.Reading.{IsNoInput};
+ghost use Rattle.store_tables.specs.internal.Contents.{put_in, put_each};
+ghost use Rattle.store_tables.specs.internal.Cells.{meta_cells};
+ghost use Rattle.store_tables.specs.internal.Over.{StepsBeside};
+ghost use Rattle.store_tables.specs.internal.Reading.{IsNoInput};
 ghost use Rattle.store_tables.specs.Names.{tree_of};
 ghost use Rattle.store_tables.specs.Placed.{TakesClub};
 ghost use Rattle.store_tables.specs.declared.names.Table.TheVariants as of_club;

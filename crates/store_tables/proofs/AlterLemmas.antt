@@ -5,14 +5,17 @@ use Rattle.std.specs.List.{AllByRecursion}
 use Rattle.std.proofs.lemmas.Bool.{cases_Bool, not-true}
 use Rattle.store_tables.specs.Sql.{Has, Row, Table}
 use Rattle.sqlite_rules.proofs.ListLemmas.{has_filtered, has_kept}
-use Rattle.store_tables.specs.Content.{same_key, put}
-use Rattle.store_tables.specs.Contents.{Content, put_in, put_each}
-use Rattle.store_tables.specs.Changes.{HaveSame, AreSame, Alters, put_rows}
-use Rattle.store_tables.specs.Changed.{put_maybe, changed, maybe_row, AltersTables}
+use Rattle.store_tables.specs.Content.{same_key}
+use Rattle.store_tables.specs.internal.Content.{put}
+use Rattle.store_tables.specs.Contents.{Content}
+use Rattle.store_tables.specs.internal.Contents.{put_in, put_each}
+use Rattle.store_tables.specs.Changes.{HaveSame}
+use Rattle.store_tables.specs.internal.Changes.{AreSame, Alters, put_rows}
+use Rattle.store_tables.specs.internal.Changed.{put_maybe, changed, maybe_row, AltersTables}
 use Rattle.store_tables.specs.Tables.{club_schema, standing}
 use Rattle.store_tables.specs.declared.names.Table.TheVariants.{Members, Events, EventRules, Challenges, Moves, Games}
 use Rattle.store_tables.specs.declared.names.Table.TheVariants.{Seen, Scores, Meta}
-use Rattle.store_tables.specs.Cells.{meta_cells}
+use Rattle.store_tables.specs.internal.Cells.{meta_cells}
 use Rattle.store_tables.specs.declared.rows.MetaRow.{MetaRow}
 use Rattle.store_tables.specs.declared.rows.Changes.{Changes}
 

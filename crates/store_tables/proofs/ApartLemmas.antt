@@ -13,7 +13,7 @@ use Rattle.sqlite_trees.proofs.ListLemmas.{along_permutation, all-permutation, m
 use Rattle.sqlite_sql.specs.Term.{Term, eval_all}
 use Rattle.sqlite_sql.specs.Query.{IsAnswer, Output, output}
 use Rattle.sqlite_sql.specs.Program.{overlay}
-use Rattle.store_tables.specs.Put.{selects}
+use Rattle.store_tables.specs.internal.Put.{selects}
 use Rattle.store_tables.proofs.ReadLemmas.{same_shown}
 use Rattle.std.proofs.lemmas.List.Concat.{flat_map_single}
 

@@ -18,8 +18,8 @@ use Rattle.sqlite_trees.proofs.ListLemmas.{ascending-map, ascending_weaker}
 use Rattle.sqlite_rules.specs.Edit.{id_in}
 use Rattle.sqlite_rules.proofs.ListLemmas.{all_has}
 use Rattle.sqlite_rules.proofs.TableLemmas.{int_is}
-use Rattle.store_tables.specs.Cells.{Rises}
-use Rattle.store_tables.specs.Reading.{AreIds, by_columns}
+use Rattle.store_tables.specs.internal.Cells.{Rises}
+use Rattle.store_tables.specs.internal.Reading.{AreIds, by_columns}
 use Rattle.store_tables.proofs.KeyLemmas.{int_same}
 use Rattle.store_tables.proofs.OrderLemmas.{got, same_length}
 

@@ -12,7 +12,7 @@ use Rattle.sqlite.specs.Command.TheVariants.{Select}
 use Rattle.sqlite_sql.specs.Term.{Term, eval_all}
 use Rattle.sqlite_sql.specs.Query.{IsAnswer, Output, output, output_cmp}
 use Rattle.sqlite_sql.specs.Program.{overlay}
-use Rattle.store_tables.specs.Put.{selects}
+use Rattle.store_tables.specs.internal.Put.{selects}
 use Rattle.store_tables.proofs.ReadLemmas.{env_of}
 
 pub got : {A B : Type 0} (f : A → B) (xs : List A) (j : ℕ) (d : B) (e : A) → j < length xs

@@ -10,13 +10,15 @@ use Rattle.sqlite.specs.Does.{lacks_sequence}
 use Rattle.sqlite_rules.proofs.ListLemmas.{all_has, has_got}
 use Rattle.sqlite_trees.proofs.ListLemmas.{all-map, all_both, all_from_map, all_of, all_weaker}
 use Rattle.sqlite_schema.specs.Names.{same_name}
-use Rattle.store_tables.specs.Changes.{HaveSame, AreSame}
+use Rattle.store_tables.specs.Changes.{HaveSame}
+use Rattle.store_tables.specs.internal.Changes.{AreSame}
 use Rattle.store_tables.specs.Content.{AreApart, Keeps, cells}
 use Rattle.store_tables.specs.Contents as of_schema
 use Rattle.store_tables.specs.Contents.{AreStored, Content, Stores, nothing}
 use Rattle.store_tables.specs.Club.{IsExactly, Leaves}
 use Rattle.store_tables.specs.Names.{in_order, table_name, tree_of}
-use Rattle.store_tables.specs.Over.{HasRows, HoldsBeside, HoldsFirst, HoldsClubAmong, IsFirstBeside, IsUpgraded}
+use Rattle.store_tables.specs.Over.{HasRows, HoldsClubAmong, IsFirstBeside, IsUpgraded}
+use Rattle.store_tables.specs.internal.Over.{HoldsBeside, HoldsFirst}
 use Rattle.store_tables.specs.Over.{LeavesBeside, LeavesFirst, Neighbours, alone, over}
 use Rattle.store_tables.specs.Placed.{HasTables, HasTablesOf, HasTableAt, TakesClub, by_club, club_trees, tables_of}
 use Rattle.store_tables.specs.Placed.{tree_in}

@@ -26,7 +26,7 @@ use Rattle.sqlite_tied.specs.Compute.{everything}
 use Rattle.store_tables.proofs.PlacedTexts.{understood_as}
 use Rattle.store_tables.specs.Names.{table_name}
 use Rattle.store_tables.specs.Placed.{HasTableAt}
-use Rattle.store_tables.specs.Texts.{create_of}
+use Rattle.store_tables.specs.internal.Texts.{create_of}
 use Rattle.store_tables.specs.declared.names.Table as of_club
 use Rattle.store_tables.specs.declared.names.Table.TheVariants.{Meta}
 

@@ -8,13 +8,14 @@ use Rattle.sqlite.specs.Does.{Tally, lacks_sequence}
 use Rattle.store_tables.specs.Sql.{Database, Schema, State, Table}
 use Rattle.sqlite.specs.State.{Writes}
 use Rattle.sqlite_trees.proofs.ListLemmas.{all-append, all_both}
-use Rattle.store_tables.specs.Contents.{Content, Holds, Ran, Stores}
+use Rattle.store_tables.specs.Contents.{Content, Holds, Stores}
+use Rattle.store_tables.specs.internal.Contents.{Ran}
 use Rattle.store_tables.specs.Names.{table_name}
 use Rattle.store_tables.proofs.PlacedCreated.{next_rises}
 use Rattle.store_tables.specs.Room.{AreUnused, made_in}
 use Rattle.store_tables.proofs.PlacedSteps.{IsEmptyFrom}
 use Rattle.store_tables.specs.Tables.{made_as}
-use Rattle.store_tables.specs.Texts.{create_of}
+use Rattle.store_tables.specs.internal.Texts.{create_of}
 use Rattle.store_tables.specs.declared.names.Table as of_club
 use Rattle.store_tables.proofs.MakeLemmas.{stores_by, stores_none}
 use Rattle.store_tables.proofs.Meanings.{defined}

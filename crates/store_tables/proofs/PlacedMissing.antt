@@ -6,7 +6,7 @@ use Rattle.sqlite_schema.specs.Names.{same_name, table_named, view_named}
 use Rattle.sqlite_resolve.specs.Compile.{compiled}
 use Rattle.store_tables.specs.Names.{table_name}
 use Rattle.store_tables.specs.Tables.{standing}
-use Rattle.store_tables.specs.Texts.{by_first_text}
+use Rattle.store_tables.specs.internal.Texts.{by_first_text}
 use Rattle.store_tables.specs.declared.names.Table.TheVariants.{EventRules}
 use Rattle.store_tables.proofs.PlacedSelects.{are_meant, group_asked}
 use Rattle.store_tables.proofs.PlacedTexts.{compiled_none}

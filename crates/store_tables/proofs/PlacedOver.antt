@@ -12,13 +12,16 @@ use Rattle.sqlite_catalog.proofs.StepLemmas.{table_below}
 use Rattle.sqlite_catalog.specs.Listing.{IsSound}
 use Rattle.sqlite_schema.specs.Names.{table_named}
 use Rattle.store_tables.specs.Content.{Keeps}
-use Rattle.store_tables.specs.Contents.{Content, Holds, Ran, Stores, nothing, opening_meta, put_each, put_in}
+use Rattle.store_tables.specs.Contents.{Content, Holds, Stores, nothing}
+use Rattle.store_tables.specs.internal.Contents.{Ran, opening_meta, put_each, put_in}
 use Rattle.store_tables.specs.Names.{in_order, table_name, tree_of}
-use Rattle.store_tables.specs.Over.{HoldsBeside, HoldsFirst, IsUpgraded, Neighbours, StepsBeside, is_tree, over}
+use Rattle.store_tables.specs.Over.{IsUpgraded, Neighbours, is_tree, over}
+use Rattle.store_tables.specs.internal.Over.{HoldsBeside, HoldsFirst, StepsBeside}
 use Rattle.store_tables.specs.Placed.{EachStanding, HasTables, HasTablesOf, HasTableAt, TakesClub, tables_of, tree_in}
-use Rattle.store_tables.specs.Room.{Fills, HasRoom, Makes}
+use Rattle.store_tables.specs.Room.{HasRoom}
+use Rattle.store_tables.specs.internal.Room.{Fills, Makes}
 use Rattle.store_tables.specs.Tables.{made_as, standing}
-use Rattle.store_tables.specs.Texts.{create_of, put_text}
+use Rattle.store_tables.specs.internal.Texts.{create_of, put_text}
 use Rattle.store_tables.specs.declared.names.Table as of_club
 use Rattle.store_tables.specs.declared.names.Table.TheVariants.{EventRules, Meta}
 use Rattle.store_tables.specs.declared.names.Version.TheVariants.{First, Current}

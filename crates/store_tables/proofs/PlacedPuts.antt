@@ -24,11 +24,13 @@ use Rattle.sqlite_schema.specs.declared.schema.Constraint.TheVariants.{Unique}
 use Rattle.sqlite_schema.specs.declared.schema.Keys.TheVariants.{Enforced}
 use Rattle.sqlite_value.specs.declared.value.Value.{Value}
 use Rattle.store_tables.specs.Cells.{MetaRow, MemberRow, EventRow, EventRuleRow, ChallengeRow, MoveRow, GameTableRow}
-use Rattle.store_tables.specs.Cells.{SeenRow, ScoreRow, meta_cells, member_cells, event_cells, challenge_cells}
-use Rattle.store_tables.specs.Cells.{move_cells, game_cells, event_rule_cells, seen_cells, score_cells}
+use Rattle.store_tables.specs.Cells.{SeenRow, ScoreRow, event_cells}
+use Rattle.store_tables.specs.internal.Cells.{meta_cells, member_cells, challenge_cells}
+use Rattle.store_tables.specs.Cells.{move_cells, game_cells, seen_cells}
+use Rattle.store_tables.specs.internal.Cells.{event_rule_cells, score_cells}
 use Rattle.store_tables.specs.Content.{cells, same_key}
 use Rattle.store_tables.specs.Placed.{IsAlike, IsLeftAlone, HasTableAt, only, IsOfOthers}
-use Rattle.store_tables.specs.Put.{IsPut}
+use Rattle.store_tables.specs.internal.Put.{IsPut}
 use Rattle.store_tables.specs.Tables.{made_as, standing}
 use Rattle.store_tables.specs.declared.names.Table as of_club
 use Rattle.store_tables.specs.declared.names.Table.TheVariants.{Members, Events, EventRules, Challenges, Moves, Games}

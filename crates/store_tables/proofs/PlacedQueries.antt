@@ -32,7 +32,7 @@ use Rattle.sqlite_resolve.specs.Body.{outputs_from, result, shared, table_by, ta
 use Rattle.sqlite_resolve.specs.Expr.{lower}
 use Rattle.sqlite_resolve.specs.Order.{keys, sorts, sorts_from}
 use Rattle.sqlite_resolve.specs.Select.{assembled, having, inside, named, outermost, parts}
-use Rattle.store_tables.specs.Texts.{parameters}
+use Rattle.store_tables.specs.internal.Texts.{parameters}
 use Rattle.store_tables.proofs.PlacedTerms.{StandsAt, bound_at, context_at, is_known, level_at, filter_written}
 use Rattle.store_tables.proofs.PlacedTerms.{outputs_same, shown_written, sort_written, sorts_same, alone, tests_same}
 

@@ -6,10 +6,10 @@ use Rattle.sqlite.specs.declared.types.Value.TheVariants.{Null, Int, Text}
 use Rattle.sqlite_schema.specs.Names.{place_of as stored_at}
 use Rattle.sqlite_tied.specs.Compute.{everything}
 use Rattle.sqlite_value.specs.Keys.{first_key}
-use Rattle.store_tables.specs.Placed.{AsksAnywhere}
-use Rattle.store_tables.specs.Queries.{is_read_as_select}
+use Rattle.store_tables.specs.internal.Placed.{AsksAnywhere}
+use Rattle.store_tables.specs.internal.Queries.{is_read_as_select}
 use Rattle.store_tables.specs.Tables.{made_as}
-use Rattle.store_tables.specs.Texts.{name_at, names_of, question_text}
+use Rattle.store_tables.specs.internal.Texts.{name_at, names_of, question_text}
 use Rattle.store_tables.specs.declared.names.Table as of_club
 use Rattle.store_tables.specs.declared.names.Table.TheVariants.{Members, Events, Challenges, Moves, Games, Seen, Scores}
 use Rattle.store_tables.proofs.PlacedSelects.{hows, Picks, all_shown, as_given, columns_of, is_bare, is_found}

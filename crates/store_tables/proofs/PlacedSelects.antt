@@ -8,9 +8,9 @@ use Rattle.sqlite.specs.declared.types.Value.TheVariants.{Int}
 use Rattle.sqlite_schema.specs.Names.{table_named, is_key, place_of as stored_at}
 use Rattle.store_tables.specs.Names.{table_name}
 use Rattle.store_tables.specs.Placed.{HasTableAt}
-use Rattle.store_tables.specs.Queries.{AreShownBy, is_read_as_select, by_others}
+use Rattle.store_tables.specs.internal.Queries.{AreShownBy, is_read_as_select, by_others}
 use Rattle.store_tables.specs.Tables.{made_as}
-use Rattle.store_tables.specs.Texts.{names_of, id_name, key_names, all_text, ids_text, by_first_text}
+use Rattle.store_tables.specs.internal.Texts.{names_of, id_name, key_names, all_text, ids_text, by_first_text}
 use Rattle.store_tables.specs.declared.names.Table as of_club
 use Rattle.store_tables.specs.declared.names.Table.TheVariants.{Meta}
 use Rattle.store_tables.proofs.PlacedTexts.{IsFound, command_is, plain_is, stored, unlisted_is, IsMeant, meant_so}
@@ -19,7 +19,7 @@ use Rattle.sqlite_tied.specs.Compute.{everything}
 use Rattle.sqlite_value.specs.Keys.{first_key, ascending}
 use Rattle.sqlite_value.specs.declared.keys.Collation.{Collation}
 use Rattle.sqlite_value.specs.declared.keys.Collation.TheVariants.{Binary}
-use Rattle.store_tables.specs.Reading.{by_columns}
+use Rattle.store_tables.specs.internal.Reading.{by_columns}
 use Rattle.store_tables.proofs.PlacedQueries.{Asked, asked_of}
 use Rattle.sqlite_sql.specs.Query.{Query, output, output_cmp}
 use Rattle.sqlite_sql.specs.declared.ops.BinaryOp.TheVariants.{Compare}
@@ -27,7 +27,7 @@ use Rattle.sqlite_sql.specs.declared.ops.CompareOp.TheVariants.{Eq}
 use Rattle.sqlite_sql.specs.Program.{overlay}
 use Rattle.sqlite_value.specs.declared.keys.Key.{Key}
 use Rattle.store_tables.specs.Content.{cells, same_key}
-use Rattle.store_tables.specs.Put.{selects}
+use Rattle.store_tables.specs.internal.Put.{selects}
 
 -- ---- the parts of a SELECT of one table
 

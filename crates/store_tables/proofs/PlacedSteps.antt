@@ -9,12 +9,14 @@ use Rattle.store_tables.specs.Sql.{Row, Schema, State, Table, Has, Trees, Databa
 use Rattle.sqlite.specs.State.{ExecutesInside, mode_of, Executes}
 use Rattle.sqlite_rules.proofs.ListLemmas.{all_has, has_got, all_from}
 use Rattle.sqlite_trees.specs.Tree.{IsAscending}
-use Rattle.store_tables.specs.Contents.{Content, Steps, Stores, put_in, AreStored, Holds}
+use Rattle.store_tables.specs.Contents.{Content, Stores, AreStored, Holds}
+use Rattle.store_tables.specs.internal.Contents.{Steps, put_in}
 use Rattle.store_tables.specs.Names.{in_order, table_name, tree_of}
-use Rattle.store_tables.specs.Content.{put, AreApart, Keeps}
+use Rattle.store_tables.specs.Content.{AreApart, Keeps}
+use Rattle.store_tables.specs.internal.Content.{put}
 use Rattle.store_tables.specs.Placed.{EachStanding, IsLeftAlone, HasTableAt, tables_of, HasTables, TakesClub}
 use Rattle.store_tables.specs.Tables.{made_as, standing}
-use Rattle.store_tables.specs.Texts.{put_text}
+use Rattle.store_tables.specs.internal.Texts.{put_text}
 use Rattle.store_tables.specs.declared.names.Table as of_club
 use Rattle.store_tables.specs.declared.names.Table.TheVariants.{Meta}
 use Rattle.store_tables.specs.declared.names.Version.TheVariants.{Current}
@@ -28,7 +30,7 @@ use Rattle.sqlite.specs.Command.TheVariants.{InsertOr}
 use Rattle.sqlite_schema.specs.declared.command.Conflict.TheVariants.{Abort}
 use Rattle.sqlite_rules.proofs.RuleLemmas.{same_table}
 use Rattle.sqlite.proofs.Callers.{statement_of, runs_as}
-use Rattle.store_tables.specs.Put.{HasPut, on_key}
+use Rattle.store_tables.specs.internal.Put.{HasPut, on_key}
 use Rattle.store_tables.proofs.MakeLemmas.{stores_by}
 use Rattle.store_tables.proofs.UpsertLemmas.{went, same_value}
 use Rattle.store_tables.proofs.PutLemmas.{puts}

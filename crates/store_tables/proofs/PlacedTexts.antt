@@ -32,7 +32,7 @@ use Rattle.sqlite_syntax.specs.declared.statement.Parsed.{Parsed}
 use Rattle.sqlite_resolve.specs.Scope.{Name}
 use Rattle.sqlite_resolve.specs.Select.{constant_or, named, paging}
 use Rattle.sqlite_resolve.specs.Terms.{number}
-use Rattle.store_tables.specs.Put.{selects}
+use Rattle.store_tables.specs.internal.Put.{selects}
 use Rattle.store_tables.proofs.PlacedTerms.{StandsAt, is_known, alone as alone_in, sort_written}
 use Rattle.store_tables.proofs.PlacedQueries.{AreKnown, Asked, core_in, core_out, named_by, named_is, named_none}
 use Rattle.store_tables.proofs.PlacedQueries.{parsed_in, select_in, select_out, source_out}

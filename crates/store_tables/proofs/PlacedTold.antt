@@ -3,7 +3,7 @@ use Rattle.std.proofs.Common.{◌≡◌, ℕ, List, map, refl, ap, subst, ◌∙
 use Rattle.store_tables.specs.Sql.{Row, State}
 use Rattle.store_tables.specs.Content.{cells}
 use Rattle.store_tables.specs.Placed.{HasTableAt, club_trees}
-use Rattle.store_tables.specs.Reading.{ReturnsRows}
+use Rattle.store_tables.specs.internal.Reading.{ReturnsRows}
 use Rattle.store_tables.specs.Tables.{made_as, standing}
 use Rattle.store_tables.specs.declared.names.Table as of_club
 use Rattle.store_tables.proofs.OverLemmas.{cells_are, keeps_moved, trees_here}

@@ -26,9 +26,9 @@ use Rattle.sqlite_resolve.specs.Program.{program}
 use Rattle.sqlite_resolve.specs.Write.{places}
 use Rattle.std.specs.List.{list_all}
 use Rattle.sqlite_tied.specs.Compute.{everything}
-use Rattle.store_tables.specs.Put.{on_key}
+use Rattle.store_tables.specs.internal.Put.{on_key}
 use Rattle.store_tables.specs.Tables.{made_as}
-use Rattle.store_tables.specs.Texts.{key_names, names_of, put_text, parameters_of}
+use Rattle.store_tables.specs.internal.Texts.{key_names, names_of, put_text, parameters_of}
 use Rattle.store_tables.specs.declared.names.Table as of_club
 use Rattle.store_tables.specs.declared.names.Table.TheVariants.{Meta}
 use Rattle.store_tables.proofs.ExcludedLemmas.{is_of_table, new_of, new_row, update_same, updates_to}

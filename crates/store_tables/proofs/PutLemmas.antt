@@ -35,7 +35,7 @@ use Rattle.sqlite.specs.Rows.{Task, Written, InsertsOr, Tries, Upserts, Puts, Cl
 use Rattle.sqlite.specs.Rows.{count_of, rowids_for, shown}
 use Rattle.sqlite.proofs.Callers.{one_step, one_permutation}
 use Rattle.store_tables.specs.Content.{cells, AreApart, same_key}
-use Rattle.store_tables.specs.Put.{picks, on_key, IsPut, HasPut}
+use Rattle.store_tables.specs.internal.Put.{picks, on_key, IsPut, HasPut}
 use Rattle.store_tables.proofs.UpsertLemmas.{went, same_value, only_one, apart-put_row, apart-filter}
 
 -- the row with a rowid is the one that is found by it

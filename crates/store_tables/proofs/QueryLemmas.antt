@@ -16,7 +16,7 @@ use Rattle.sqlite_resolve.specs.declared.compiled.Compiled.{Compiled}
 use Rattle.sqlite_resolve.specs.declared.error.CompileError.{CompileError}
 use Rattle.sqlite_resolve.specs.Lowering.{Checked, and_then}
 use Rattle.sqlite_resolve.specs.Compile.{first, compiled, planned, meaning, returning, command}
-use Rattle.store_tables.specs.Queries.{is_select, is_read_as_select, IsSelect}
+use Rattle.store_tables.specs.internal.Queries.{is_select, is_read_as_select, IsSelect}
 use Rattle.store_tables.specs.Over.{HasRows}
 use Rattle.store_tables.specs.Contents.{Content}
 use Rattle.store_tables.specs.Reading.{KeepsContent, KeepsMay, OnlyReads, Reads}

@@ -19,7 +19,7 @@ use Rattle.sqlite_sql.specs.Query.{IsAnswer, Output, Query, output}
 use Rattle.sqlite_sql.specs.Program.{overlay}
 use Rattle.sqlite_rules.proofs.ProbeLemmas.{has_mapped as mapped_from, mapped_has}
 use Rattle.sqlite_rules.proofs.ListLemmas.{has_contained, contains_had, has_either, has_left, has_right}
-use Rattle.store_tables.specs.Put.{selects}
+use Rattle.store_tables.specs.internal.Put.{selects}
 
 pub has_mapped : {A B : Type 0} (f : A → B) (xs : List A) (y : B) → Has (map f xs) y → (x : A) × Has xs x × (y ≡ f x)
 has_mapped = mapped_from

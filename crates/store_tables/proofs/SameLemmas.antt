@@ -2,7 +2,8 @@
 use Rattle.std.proofs.Common.{List}
 use Rattle.sqlite_trees.proofs.ListLemmas.{all_both}
 use Rattle.store_tables.specs.Sql.{Row, Schema, Table, Trees, State}
-use Rattle.store_tables.specs.Changes.{HaveSame, AreSame}
+use Rattle.store_tables.specs.Changes.{HaveSame}
+use Rattle.store_tables.specs.internal.Changes.{AreSame}
 use Rattle.store_tables.specs.Content.{Keeps}
 use Rattle.store_tables.specs.Contents as of_schema
 use Rattle.store_tables.specs.Contents.{Content, Stores, AreStored}

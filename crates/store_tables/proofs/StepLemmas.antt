@@ -3,7 +3,8 @@ use Rattle.std.proofs.Common.{◌≡◌, ℕ, List, [], ◌∷◌, ◌++◌, ref
 use Rattle.store_tables.specs.Sql.{Row, Trees, Schema, Database, State}
 use Rattle.sqlite.specs.State.{Shows}
 use Rattle.sqlite_catalog.specs.Listing.{IsSound}
-use Rattle.store_tables.specs.Contents.{Content, put_in, put_each, Holds, Leaves, IsExactly}
+use Rattle.store_tables.specs.Contents.{Content, Holds, Leaves, IsExactly}
+use Rattle.store_tables.specs.internal.Contents.{put_in, put_each}
 
 pub put_each-push : (tree : ℕ) (key : List ℕ) (rows : List Row) (row : Row) (content : Content)
     → put_each tree key (rows ++ row ∷ []) content ≡ put_in tree key row (put_each tree key rows content)

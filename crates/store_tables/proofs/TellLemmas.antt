@@ -26,10 +26,11 @@ use Rattle.sqlite_resolve.specs.declared.error.CompileError.{CompileError}
 use Rattle.sqlite_sql.specs.Term.{Term, eval_all}
 use Rattle.sqlite_rules.proofs.ListLemmas.{all_has, has_got}
 use Rattle.store_tables.specs.Content.{cells, same_key, Keeps, AreApart}
-use Rattle.store_tables.specs.Contents.{Content, Stores, AreStored, IsExactly, AreThose}
-use Rattle.store_tables.specs.Put.{selects}
-use Rattle.store_tables.specs.Reading.{AreIds, by_columns, ReturnsRows, TellsIds, IsNoInput}
-use Rattle.store_tables.specs.Queries.{Selects, Finds}
+use Rattle.store_tables.specs.Contents.{Content, Stores, AreStored, IsExactly}
+use Rattle.store_tables.specs.internal.Contents.{AreThose}
+use Rattle.store_tables.specs.internal.Put.{selects}
+use Rattle.store_tables.specs.internal.Reading.{AreIds, by_columns, ReturnsRows, TellsIds, IsNoInput}
+use Rattle.store_tables.specs.internal.Queries.{Selects, Finds}
 use Rattle.store_tables.proofs.ApartLemmas.{pairs_turned, each_shown}
 use Rattle.store_tables.proofs.OrderLemmas.{sorted_rows, has_index}
 use Rattle.store_tables.proofs.ReadLemmas.{found_rows, shown_rows, has_map, has_mapped, shown_unchanged, may_as_before}

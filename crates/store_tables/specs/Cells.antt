@@ -1,11 +1,9 @@
 -- The column values of a row of each table, in the order of its columns.
-use Rattle.std.specs.Prelude.{◌≡◌, ◌⊎◌, ℕ, ℤ, ◌<ℤ◌, List, [], ◌∷◌, string_bytes, IsUtf8, IsTrue, length}
+use Rattle.std.specs.Prelude.{◌≡◌, ◌⊎◌, ℕ, List, [], ◌∷◌, string_bytes, IsUtf8, length}
 use Rattle.sqlite_value.specs.declared.value.Value.{Value}
 use Rattle.sqlite_value.specs.declared.value.Value.TheVariants.{Null, Int, Text}
 use Rattle.sqlite.specs.Values.{IsInt, or_null}
 use Rattle.sqlite.specs.Order.{Row, column}
-use Rattle.sqlite_trees.specs.Tree.{IsAscending}
-use Rattle.sqlite_trees.specs.View.{is_int}
 pub use Rattle.store_tables.specs.declared.rows.MetaRow.{MetaRow}
 pub use Rattle.store_tables.specs.declared.rows.MemberRow.{MemberRow}
 pub use Rattle.store_tables.specs.declared.rows.EventRow.{EventRow}
@@ -16,26 +14,9 @@ pub use Rattle.store_tables.specs.declared.rows.GameTableRow.{GameTableRow}
 pub use Rattle.store_tables.specs.declared.rows.SeenRow.{SeenRow}
 pub use Rattle.store_tables.specs.declared.rows.ScoreRow.{ScoreRow}
 
--- the column values of a row of `meta`
-abbrev pub meta_cells : MetaRow → Row
-meta_cells r = Int r.id ∷ Int r.schema ∷ Int r.last ∷ []
-
--- the column values of a row of `members`
-abbrev pub member_cells : MemberRow → Row
-member_cells r = Int r.id ∷ Text (string_bytes r.name) ∷ Text (string_bytes r.key) ∷ []
-
 -- the column values of a row of `events`
 abbrev pub event_cells : EventRow → Row
 event_cells r = Int r.id ∷ Text (string_bytes r.name) ∷ Int r.game ∷ Int r.budget ∷ Int r.increment ∷ []
-
--- the column values of a row of `event_rules`
-abbrev pub event_rule_cells : EventRuleRow → Row
-event_rule_cells r = Int r.event ∷ Int r.declares ∷ []
-
--- the column values of a row of `challenges`
-abbrev pub challenge_cells : ChallengeRow → Row
-challenge_cells r = Int r.member ∷ Int r.number ∷ Int r.event ∷ Int r.other ∷ Int r.first ∷ Int r.state
-    ∷ or_null Int r.game ∷ []
 
 -- the column values of a row of `moves`
 abbrev pub move_cells : MoveRow → Row
@@ -55,11 +36,6 @@ game_cells r =
 abbrev pub seen_cells : SeenRow → Row
 seen_cells r = Int r.game ∷ Text (string_bytes r.position) ∷ Int r.count ∷ Int r.first_ply ∷ []
 
--- the column values of a row of `scores`
-abbrev pub score_cells : ScoreRow → Row
-score_cells r = Int r.event ∷ Int r.member ∷ Int r.opponent ∷ Int r.points ∷ Int r.wins ∷ Int r.draws ∷ Int r.losses
-    ∷ []
-
 -- ---- values of the right types
 
 -- a text in UTF-8
@@ -69,13 +45,6 @@ IsText v = (t : List ℕ) × (v ≡ Text t) × IsUtf8 t
 -- NULL, or a value with this property
 abbrev pub OrNull : (Value → Type 0) → Value → Type 0
 OrNull Is v = (v ≡ Null) ⊎ Is v
-
--- the row has the columns of `meta`, each with a value of its type
-pub record IsMeta (row : Row) : Type 0 where
-  pub width : length row ≡ 3
-  pub id : IsInt (column row 0)
-  pub schema : IsInt (column row 1)
-  pub last : IsInt (column row 2)
 
 -- the row has the columns of `members`, each with a value of its type
 pub record IsMember (row : Row) : Type 0 where
@@ -159,11 +128,3 @@ pub record IsScore (row : Row) : Type 0 where
   pub wins : IsInt (column row 4)
   pub draws : IsInt (column row 5)
   pub losses : IsInt (column row 6)
-
--- strictly ascending
-abbrev pub Rises : List ℤ → Type 0
-Rises ids = IsAscending (λ a b. a <ℤ b) ids
-
--- the first column is an integer
-abbrev pub BeginsWithInteger : Row → Type 0
-BeginsWithInteger row = IsTrue (is_int (column row 0))

@@ -1,14 +1,9 @@
 -- The rows in a database with a club's schema, and the rows after a crash.
 use Rattle.sqlite.specs.Tree.{Trees}
-use Rattle.sqlite.specs.Effect.{Database}
 use Rattle.sqlite.specs.State.{State}
 use Rattle.store_tables.specs.Contents as of_schema
 use Rattle.store_tables.specs.Contents.{Content}
 use Rattle.store_tables.specs.Tables.{club_schema}
-
--- The database has schema 2 and nothing else, and each table has its rows.
-abbrev pub Holds : Database → Content → Type 0
-Holds = of_schema.Holds club_schema
 
 -- After a crash the file has schema 2 and nothing else, and its tables have these rows.
 abbrev pub Leaves : Content → Trees → Type 0
@@ -21,7 +16,3 @@ IsExactly = of_schema.IsExactly club_schema
 -- A connection that was just opened over schema 2 and nothing else, with any rows.
 abbrev pub IsOpened : State → Type 0
 IsOpened = of_schema.IsOpened club_schema
-
--- Inside a transaction the rows of schema 2 changed in this way; nothing was committed.
-abbrev pub Steps : (Content → Content) → State → State → Type 0
-Steps = of_schema.Steps club_schema

@@ -1,5 +1,5 @@
 -- The rows of one table, independent of their rowids and of the layout of its tree.
-use Rattle.std.specs.Prelude.{◌≡◌, ◌≢◌, ℕ, Bool, not, List, ◌∷◌, length, map, filter, IsTrue}
+use Rattle.std.specs.Prelude.{◌≡◌, ◌≢◌, ℕ, Bool, List, length, map, IsTrue}
 use Rattle.std.specs.List.{AllByRecursion, range_with_len}
 use Rattle.sqlite.specs.Order.{Row, column}
 use Rattle.std.specs.declared.cmp.Ordering.TheVariants.{Equal}
@@ -30,7 +30,3 @@ pub record AreApart (rows : List Row) : Type 0 where
 -- the same values in the columns of the key
 abbrev pub same_key : List ℕ → Row → Row → Bool
 same_key key a b = agree plain key a key b
-
--- upserts a row: it replaces the one with the same key
-abbrev pub put : List ℕ → Row → List Row → List Row
-put key row rows = row ∷ filter (λ x. not (same_key key x row)) rows

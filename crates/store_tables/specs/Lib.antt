@@ -1,5 +1,4 @@
 pub mod Cells
-pub mod Changed
 pub mod Changes
 pub mod Club
 pub mod Content
@@ -7,11 +6,8 @@ pub mod Contents
 pub mod Names
 pub mod Over
 pub mod Placed
-pub mod Put
-pub mod Queries
 pub mod Reading
 pub mod Room
-pub mod Rows
 pub mod Sql
 pub mod Tables
-pub mod Texts
+pub mod internal

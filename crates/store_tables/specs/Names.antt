@@ -20,18 +20,6 @@ table_name Meta = codes "meta"
 abbrev pub in_order : List Table
 in_order = Meta ∷ Members ∷ Events ∷ Challenges ∷ Moves ∷ Games ∷ Seen ∷ Scores ∷ EventRules ∷ []
 
--- the number of tables created before it
-abbrev pub place_of : Table → ℕ
-place_of Meta = 0
-place_of Members = 1
-place_of Events = 2
-place_of Challenges = 3
-place_of Moves = 4
-place_of Games = 5
-place_of Seen = 6
-place_of Scores = 7
-place_of EventRules = 8
-
 -- The number of the table's tree in a database with only a club. Its indexes have the trees that follow.
 abbrev pub tree_of : Table → ℕ
 tree_of Meta = 0

@@ -3,12 +3,11 @@ use Rattle.std.specs.Prelude.{◌≡◌, ℕ, ◌==◌, ◌^◌, nat_lt, Bool, t
 use Rattle.std.specs.Prelude.{Some, None}
 use Rattle.std.specs.List.{AllByRecursion}
 use Rattle.sqlite.specs.Does.{lacks_sequence}
-use Rattle.sqlite.specs.Effect.{Database}
 use Rattle.sqlite.specs.Schema.{Schema}
 use Rattle.sqlite.specs.State.{State}
 use Rattle.sqlite.specs.Tree.{Trees}
 use Rattle.sqlite_catalog.specs.Change.{created, next_tree}
-use Rattle.store_tables.specs.Contents.{Content, Holds, IsExactly, Leaves, nothing}
+use Rattle.store_tables.specs.Contents.{Content, IsExactly, Leaves, nothing}
 use Rattle.store_tables.specs.Names.{in_order, tree_of}
 use Rattle.store_tables.specs.Placed.{HasTables, HasTablesOf, TakesClub, by_club, tree_in}
 use Rattle.store_tables.specs.Tables.{club_schema, made_as}
@@ -52,10 +51,6 @@ pub record Neighbours : Type 0 where
 abbrev pub alone : Neighbours
 alone = record { schema = club_schema; rows = nothing }
 
--- the database has these rows of a club and the foreign rows
-abbrev pub HoldsBeside : Neighbours → Content → Database → Type 0
-HoldsBeside them content db = Holds them.schema db (over them.schema content them.rows)
-
 -- The connection has exactly these rows of a club and the foreign rows, also after a crash. No foreign object affects
 -- upserts of the club's rows.
 pub record HoldsClubAmong (them : Neighbours) (content : Content) (s : State) : Type 0 where
@@ -66,13 +61,6 @@ pub record HoldsClubAmong (them : Neighbours) (content : Content) (s : State) : 
 pub record LeavesBeside (them : Neighbours) (content : Content) (trees : Trees) : Type 0 where
   pub clear : TakesClub Current them.schema
   pub leaves : Leaves them.schema (over them.schema content them.rows) trees
-
--- Inside a transaction the club's rows changed in this way and foreign rows did not; nothing was committed.
-pub record StepsBeside (change : Content → Content) (old new : State) : Type 0 where
-  pub holds : (them : Neighbours) → TakesClub Current them.schema → (content : Content)
-      → HoldsBeside them content old.now → HoldsBeside them (change content) new.now
-  pub committed : new.committed ≡ old.committed
-  pub inside : new.in_transaction ≡ true
 
 -- ---- schema 1
 
@@ -86,12 +74,6 @@ pub record IsUpgraded (schema : Schema) (them : Neighbours) : Type 0 where
   -- a tree for the new table is free and has no rows
   pub stored : nat_lt (next_tree schema) (2 ^ 31) ≡ true
   pub bare : them.rows (next_tree schema) ≡ []
-
--- the database has these rows of a club of schema 1 and the foreign rows
-pub record HoldsFirst (them : Neighbours) (content : Content) (db : Database) : Type 0 where
-  pub schema : Schema
-  pub before : IsUpgraded schema them
-  pub holds : Holds schema db (over schema content them.rows)
 
 -- the connection has exactly these rows, also after a crash
 pub record IsFirstBeside (them : Neighbours) (content : Content) (s : State) : Type 0 where

@@ -2,7 +2,6 @@
 use Rattle.std.specs.Prelude.{◌≡◌, ◌⊎◌, ℕ, ◌==◌, ◌&&◌, ◌^◌, nat_lt, true, false, if◌then◌else◌, List, [], ◌∷◌}
 use Rattle.std.specs.Prelude.{Option, Some, None, Ok, IfSome, find, slice_get, take}
 use Rattle.std.specs.List.{AllByRecursion}
-use Rattle.std.specs.declared.cmp.Ordering.TheVariants.{Equal}
 use Rattle.sqlite.specs.Order.{Row}
 use Rattle.sqlite.specs.Schema.{Schema}
 use Rattle.sqlite.specs.Table.{Table}
@@ -20,9 +19,7 @@ use Rattle.sqlite_trees.specs.Tree.{IsAscending}
 use Rattle.sqlite_value.specs.Keys.{plain}
 use Rattle.store_tables.specs.Contents.{Content}
 use Rattle.store_tables.specs.Names.{in_order, table_name, tree_of}
-use Rattle.store_tables.specs.Queries.{Finds, IsSelect}
 use Rattle.store_tables.specs.Tables.{made_as}
-use Rattle.store_tables.specs.Texts.{question_text}
 use Rattle.store_tables.specs.declared.names.Table as of_club
 use Rattle.store_tables.specs.declared.names.Table.TheVariants.{EventRules}
 use Rattle.store_tables.specs.declared.names.Version.{Version}
@@ -101,18 +98,6 @@ by_club schema content = among schema content in_order
 -- the same for the trees of a database
 abbrev pub club_trees : Database → Trees
 club_trees db = by_club db.schema db.trees
-
--- The query by these columns returns the rows of the table with the wanted values, at this place.
-pub record AsksHere (schema : Schema) (table : of_club.Table) (stands : HasTableAt schema table) (key : List ℕ)
-    (wanted params : Row) : Type 0 where
-  pub is_select : IsSelect (question_text (made_as table stands.tree) key)
-  pub finds : Finds schema (made_as table stands.tree) stands.place key wanted params
-      (question_text (made_as table stands.tree) key) (λ x y. Equal)
-
--- it does so wherever the table is
-abbrev pub AsksAnywhere : of_club.Table → List ℕ → Row → Row → Type 0
-AsksAnywhere table key wanted params =
-    (schema : Schema) (stands : HasTableAt schema table) → AsksHere schema table stands key wanted params
 
 -- ---- upserts beside foreign objects
 

@@ -10,9 +10,9 @@ use Rattle.sqlite_catalog.specs.Change.{created, is_used, next_tree}
 use Rattle.sqlite_schema.specs.Names.{same_name}
 use Rattle.sqlite_schema.specs.declared.schema.Reference.{Reference}
 use Rattle.sqlite_trees.specs.Tree.{IsAscending}
-use Rattle.store_tables.specs.Contents.{Holds, IsExactly, Leaves, nothing, opening}
+use Rattle.store_tables.specs.Contents.{IsExactly, Leaves}
 use Rattle.store_tables.specs.Names.{in_order, table_name}
-use Rattle.store_tables.specs.Over.{HoldsBeside, Neighbours}
+use Rattle.store_tables.specs.Over.{Neighbours}
 use Rattle.store_tables.specs.Tables.{made_as}
 use Rattle.store_tables.specs.declared.names.Table as of_club
 
@@ -58,17 +58,3 @@ pub record LeavesNoClub (them : Neighbours) (trees : Trees) : Type 0 where
   pub schema : Schema
   pub before : HasRoom schema them
   pub leaves : Leaves schema them.rows trees
-
--- Inside a transaction a club's tables were created and the foreign rows stayed; nothing was committed.
-pub record Makes (old new : State) : Type 0 where
-  pub made : (schema : Schema) (them : Neighbours) → HasRoom schema them → Holds schema old.now them.rows
-      → HoldsBeside them nothing new.now
-  pub committed : new.committed ≡ old.committed
-  pub inside : new.in_transaction ≡ true
-
--- The same, with the rows of a new club.
-pub record Fills (old new : State) : Type 0 where
-  pub holds : (schema : Schema) (them : Neighbours) → HasRoom schema them → Holds schema old.now them.rows
-      → HoldsBeside them opening new.now
-  pub committed : new.committed ≡ old.committed
-  pub inside : new.in_transaction ≡ true

@@ -1,6 +1,6 @@
 -- The tables of a club, as SQLite parses their CREATE statements. Each UNIQUE key and each key of several columns has
 -- an index tree after the tree of its table. Schema 1 has the first eight tables, schema 2 all nine.
-use Rattle.std.specs.Prelude.{◌≡◌, ◌⊎◌, ℕ, ◌+◌, Bool, true, false, List, [], ◌∷◌, ◌++◌, map, codes, Option, Some, None}
+use Rattle.std.specs.Prelude.{ℕ, ◌+◌, Bool, true, false, List, [], ◌∷◌, ◌++◌, map, codes, Option, Some, None}
 use Rattle.std.specs.Prelude.{take}
 use Rattle.sqlite.specs.Collation.TheVariants.{Binary}
 use Rattle.sqlite.specs.declared.types.Value.TheVariants.{Null}
@@ -161,7 +161,3 @@ schema_of Current = club_schema
 abbrev pub schema_number : Version → ℕ
 schema_number First = 1
 schema_number Current = 2
-
--- the schema of a club, of either version
-abbrev pub IsClubSchema : Schema → Type 0
-IsClubSchema schema = (schema ≡ first_schema) ⊎ (schema ≡ club_schema)

@@ -5,8 +5,8 @@ ghost use Rattle.std.specs.List.Sorted.{IsSorted};
 ghost use Rattle.sqlite_value.specs.declared.value.Value.TheVariants.{Int};
 ghost use Rattle.sqlite.specs.Order.{column};
 ghost use Rattle.store_tables.specs.declared.parse.RowError.TheVariants.{WrongType};
-ghost use Rattle.store_tables.specs.Reading.{AreIds, by_columns};
-ghost use Rattle.store_tables.specs.Cells.{Rises, BeginsWithInteger};
+ghost use Rattle.store_tables.specs.internal.Reading.{AreIds, by_columns};
+ghost use Rattle.store_tables.specs.internal.Cells.{Rises, BeginsWithInteger};
 
 use crate::parse::{RowError, read};
 use sqlite::Row;

@@ -5,9 +5,12 @@ ghost use Rattle.sqlite_value.specs.declared.value.Value.TheVariants.{Int, Text}
 ghost use Rattle.sqlite.specs.Values.{IsInt, or_null};
 ghost use Rattle.sqlite.specs.Order.{Row as Cells, column};
 ghost use Rattle.store_tables.specs.declared.parse.RowError.TheVariants.{WrongType};
-ghost use Rattle.store_tables.specs.Cells.{meta_cells, member_cells, event_cells, challenge_cells, move_cells};
-ghost use Rattle.store_tables.specs.Cells.{event_rule_cells, game_cells, seen_cells, score_cells};
-ghost use Rattle.store_tables.specs.Cells.{IsText, OrNull, IsMeta, IsMember, IsEvent, IsChallenge, IsMove, IsGame};
+ghost use Rattle.store_tables.specs.Cells.{event_cells, move_cells};
+ghost use Rattle.store_tables.specs.internal.Cells.{meta_cells, member_cells, challenge_cells};
+ghost use Rattle.store_tables.specs.Cells.{game_cells, seen_cells};
+ghost use Rattle.store_tables.specs.internal.Cells.{event_rule_cells, score_cells};
+ghost use Rattle.store_tables.specs.Cells.{IsText, OrNull, IsMember, IsEvent, IsChallenge, IsMove, IsGame};
+ghost use Rattle.store_tables.specs.internal.Cells.{IsMeta};
 ghost use Rattle.store_tables.specs.Cells.{IsEventRule, IsSeen, IsScore};
 
 use crate::rows::{

@@ -33,7 +33,7 @@ const CREATE_EVENT_RULES: &str =
 impl Table {
     ghost use Rattle.std.specs.Prelude.{◌≡◌};
     ghost use Rattle.store_tables.specs.Tables.{standing};
-    ghost use Rattle.store_tables.specs.Texts.{create_of, put_text, all_text, ids_text, by_first_text};
+    ghost use Rattle.store_tables.specs.internal.Texts.{create_of, put_text, all_text, ids_text, by_first_text};
 
     /// The CREATE TABLE statement.
     pub fn create(self) -> &'static str

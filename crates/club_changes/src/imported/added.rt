@@ -1,11 +1,12 @@
 //! The rows of an imported game, except its scores.
 
 ghost use Rattle.std.specs.Prelude.{Some, IfOk, IsTrue};
-ghost use Rattle.club_rules.specs.Records.{recorded_of, IsGameByRules};
+ghost use Rattle.club_rules.specs.Records.{IsGameByRules};
+ghost use Rattle.club_rules.specs.internal.Records.{recorded_of};
 ghost use Rattle.club_core.specs.Imports.{imported};
 ghost use Rattle.club_requests.specs.Limits.{is_budget, is_increment};
-ghost use Rattle.club_rows.specs.Replay.{terms_given};
-ghost use Rattle.club_changes.specs.NewGames.{AreNewRows};
+ghost use Rattle.club_rows.specs.internal.Replay.{terms_given};
+ghost use Rattle.club_changes.specs.internal.NewGames.{AreNewRows};
 
 use crate::imported::moves::move_rows;
 use crate::imported::seen::seen_rows;

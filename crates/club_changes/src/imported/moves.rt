@@ -5,10 +5,10 @@ ghost use Rattle.std.specs.Prelude.{string_bytes};
 ghost use Rattle.sqlite_value.specs.declared.value.Value.TheVariants.{Text};
 ghost use Rattle.club_rules.specs.Line.{IsLegalLine};
 ghost use Rattle.club_requests.specs.Limits.{most_plies, is_budget, is_increment};
-ghost use Rattle.club_rows.specs.Replay.{terms_given};
+ghost use Rattle.club_rows.specs.internal.Replay.{terms_given};
 ghost use Rattle.club_rows.specs.Tables.{number};
 ghost use Rattle.store_tables.specs.Cells.{move_cells};
-ghost use Rattle.club_changes.specs.AtOnce.{rows_at_once};
+ghost use Rattle.club_changes.specs.internal.AtOnce.{rows_at_once};
 
 use clocks::Moment;
 use club_imports::rows::RemainingTimes;

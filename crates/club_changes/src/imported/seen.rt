@@ -6,7 +6,7 @@ ghost use Rattle.std.specs.Str.{bytes_eq};
 ghost use Rattle.club_rules.specs.Line.{IsLegalLine, positions};
 ghost use Rattle.club_rows.specs.Seen.{times_in, seen_row, rows_from, rows_of_texts};
 ghost use Rattle.store_tables.specs.Cells.{seen_cells};
-ghost use Rattle.club_changes.specs.MoveTexts.{bytes_of};
+ghost use Rattle.club_changes.specs.internal.MoveTexts.{bytes_of};
 
 use club_rows::numbers::to_i64;
 use club_rules::{Memory, Rules};

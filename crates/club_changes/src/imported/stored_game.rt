@@ -2,9 +2,9 @@
 
 ghost use Rattle.std.specs.Prelude.{map, IfOk, IfSome};
 ghost use Rattle.club_core.specs.Game.{Game};
-ghost use Rattle.club_imports.specs.Importing.{IsPlayedOf};
-ghost use Rattle.club_rows.specs.Replay.{terms_given};
-ghost use Rattle.club_rows.specs.LegalRows.{IsRecordOf};
+ghost use Rattle.club_imports.specs.internal.Importing.{IsPlayedOf};
+ghost use Rattle.club_rows.specs.internal.Replay.{terms_given};
+ghost use Rattle.club_rows.specs.internal.LegalRows.{IsRecordOf};
 ghost use Rattle.club_rows.specs.Tables.{move_rows};
 ghost use Rattle.store_tables.specs.Cells.{move_cells};
 ghost use Rattle.store_tables.specs.Changes.{HaveSame};

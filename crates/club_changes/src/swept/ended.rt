@@ -2,7 +2,7 @@
 
 ghost use Rattle.std.specs.Prelude.{◌≡◌, IfOk};
 ghost use Rattle.store_tables.specs.Cells.{game_cells};
-ghost use Rattle.club_changes.specs.Ended.{cells_lost};
+ghost use Rattle.club_changes.specs.internal.Ended.{cells_lost};
 
 use club_core::rows::copy_key;
 use club_requests::OutsideEnd;

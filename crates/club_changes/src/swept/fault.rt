@@ -16,7 +16,7 @@ pub enum SweepFault {
 
 impl fmt::Display for SweepFault {
     ghost use Rattle.std.specs.Prelude.{Some};
-    ghost use Rattle.club_changes.specs.SweepFaults.{fault_text};
+    ghost use Rattle.club_changes.specs.internal.SweepFaults.{fault_text};
 
     ghost output = { λ fault. Some (fault_text fault) };
 

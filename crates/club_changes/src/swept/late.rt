@@ -2,8 +2,8 @@
 
 ghost use Rattle.std.specs.Prelude.{◌≡◌};
 ghost use Rattle.club_core.specs.Game.{side_after};
-ghost use Rattle.club_rows.specs.Columns.{columns_in};
-ghost use Rattle.club_changes.specs.Late.{late_side};
+ghost use Rattle.club_rows.specs.internal.Columns.{columns_in};
+ghost use Rattle.club_changes.specs.internal.Late.{late_side};
 
 use clocks::Moment;
 use club_rows::columns::GameColumns;

@@ -2,7 +2,7 @@
 
 ghost use Rattle.std.specs.Prelude.{ℕ};
 ghost use Rattle.club_rows.specs.Club.{ClubState};
-ghost use Rattle.club_changes.specs.Swept.{LeavesOthers};
+ghost use Rattle.club_changes.specs.internal.Swept.{LeavesOthers};
 
 /// Law: a sweep changes no rows of members, events, challenges, moves and positions.
 pub fn sweep_leaves_others()

@@ -1,12 +1,13 @@
 //! Computes all rows that a sweep upserts.
 
 ghost use Rattle.std.specs.Prelude.{◌≡◌, map, IfOk, IsErrOf};
-ghost use Rattle.store_tables.specs.Cells.{game_cells, score_cells};
+ghost use Rattle.store_tables.specs.Cells.{game_cells};
+ghost use Rattle.store_tables.specs.internal.Cells.{score_cells};
 ghost use Rattle.store_tables.specs.Changes.{HaveSame};
 ghost use Rattle.store_tables.specs.Names.{tree_of};
 ghost use Rattle.store_tables.specs.declared.names.Table.TheVariants.{Games, Scores};
 ghost use Rattle.club_rows.specs.Club.{ClubState, IsClub, tables};
-ghost use Rattle.club_changes.specs.Swept.{IsSwept};
+ghost use Rattle.club_changes.specs.internal.Swept.{IsSwept};
 
 use crate::swept::ended::lost_row;
 use crate::swept::fault::SweepFault;

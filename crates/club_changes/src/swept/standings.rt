@@ -4,13 +4,13 @@ ghost use Rattle.std.specs.Prelude.{◌≡◌, ◌≢◌, ◌≤◌, ◌^◌, �
 ghost use Rattle.std.specs.Prelude.{IfOk, OnOk, IsErrOf};
 ghost use Rattle.std.specs.Option.{option_map};
 ghost use Rattle.sqlite.specs.Order.{Row};
-ghost use Rattle.store_tables.specs.Cells.{score_cells};
+ghost use Rattle.store_tables.specs.internal.Cells.{score_cells};
 ghost use Rattle.store_tables.specs.Changes.{HaveSame};
-ghost use Rattle.club_rows.specs.NextScores.{row_with, sums_found};
+ghost use Rattle.club_rows.specs.internal.NextScores.{row_with, sums_found};
 ghost use Rattle.club_rows.specs.Scores.{Meeting, meetings, same_pair, score_rows};
 ghost use Rattle.club_rows.specs.declared.scores.Pair as given_pair;
-ghost use Rattle.club_rows.specs.Pairs.{pair_in, sums_at};
-ghost use Rattle.club_changes.specs.Standing.{AreStanding, PutsRows};
+ghost use Rattle.club_rows.specs.internal.Pairs.{pair_in, sums_at};
+ghost use Rattle.club_changes.specs.internal.Standing.{AreStanding, PutsRows};
 
 use crate::swept::fault::SweepFault;
 use club_core::Pairing;

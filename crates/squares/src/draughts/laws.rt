@@ -1,5 +1,5 @@
 //! Lemmas about the geometry of the draughts board: square numbers, rows, columns and diagonals.
-ghost use Rattle.squares.specs.DraughtsLaws.{NumbersGivePlaces, PlacesGiveNumbers, LinesFollowCoordinates};
+ghost use Rattle.squares.specs.internal.DraughtsLaws.{NumbersGivePlaces, PlacesGiveNumbers, LinesFollowCoordinates};
 
 /// Lemma: the numbers 1 to 50 and the dark squares, by row and column, correspond one to one.
 pub fn numbers_and_places_correspond()

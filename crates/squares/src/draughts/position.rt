@@ -3,9 +3,10 @@ ghost use Rattle.std.specs.Prelude.{◌≡◌, ◌+◌, ◌<◌, ◌≤◌, ℕ,
 ghost use Rattle.std.specs.Prelude.{is_none};
 ghost use Rattle.std.specs.FinMap as map;
 ghost use Rattle.std.specs.FinSet as set;
-ghost use Rattle.squares.specs.DraughtsGeometry.{OnBoard};
-ghost use Rattle.squares.specs.DraughtsBoard.{is_of, board_of};
-ghost use Rattle.squares.specs.DraughtsKept.{is_king, Marks, cell_in, cells_in, noted};
+ghost use Rattle.squares.specs.internal.DraughtsGeometry.{OnBoard};
+ghost use Rattle.squares.specs.DraughtsBoard.{board_of};
+ghost use Rattle.squares.specs.internal.DraughtsBoard.{is_of};
+ghost use Rattle.squares.specs.internal.DraughtsKept.{is_king, Marks, cell_in, cells_in, noted};
 ghost use Rattle.squares.specs.DraughtsOpening.{opening, opening_piece, man};
 ghost use Rattle.squares.specs.Sides.{other};
 
@@ -30,8 +31,9 @@ pub struct DPos {
 }
 
 impl Model for DPos {
-    ghost use Rattle.squares.specs.DraughtsBoard.{Position, board_of, is_of};
-    ghost use Rattle.squares.specs.DraughtsKept.{KeepsCells, cells_in, is_king, squares_where, where_back};
+    ghost use Rattle.squares.specs.DraughtsBoard.{Position, board_of};
+    ghost use Rattle.squares.specs.internal.DraughtsBoard.{is_of};
+    ghost use Rattle.squares.specs.internal.DraughtsKept.{KeepsCells, cells_in, is_king, squares_where, where_back};
     ghost use Rattle.squares.specs.declared.sides.Side.TheVariants as side;
     ghost use Rattle.std.specs.Coded.{code_by, coded×, coded_ℕ};
     ghost use Rattle.std.specs.FinMap as finite_map;
@@ -187,7 +189,8 @@ impl DPos {
 }
 
 impl PartialEq for DPos {
-    ghost use Rattle.squares.specs.DraughtsSamePosition.{same_position, same_position-partial};
+    ghost use Rattle.squares.specs.DraughtsSamePosition.{same_position};
+    ghost use Rattle.squares.specs.internal.DraughtsSamePosition.{same_position-partial};
 
     ghost eq = { same_position };
 
@@ -208,15 +211,15 @@ impl PartialEq for DPos {
 }
 
 impl Eq for DPos {
-    ghost use Rattle.squares.specs.DraughtsSamePosition.{same_position-equivalence};
+    ghost use Rattle.squares.specs.internal.DraughtsSamePosition.{same_position-equivalence};
 
     ghost laws = { same_position-equivalence };
 }
 
 // The hash covers the squares in order, then the side to move.
 impl Hash for DPos {
-    ghost use Rattle.squares.specs.DraughtsSamePosition.{same_position-same};
-    ghost use Rattle.squares.specs.DraughtsHash.{hash_writes};
+    ghost use Rattle.squares.specs.internal.DraughtsSamePosition.{same_position-same};
+    ghost use Rattle.squares.specs.internal.DraughtsHash.{hash_writes};
     ghost use Rattle.std.proofs.Common.{ap};
 
     ghost hash_input = { hash_writes ⟦<Option<DPiece> as Hash>⟧.hash_input ⟦<Side as Hash>⟧.hash_input };

@@ -1,10 +1,12 @@
 //! Sets of draughts squares.
 ghost use Rattle.std.specs.Prelude.{◌≡◌, ◌↔◌, ◌+◌, ◌^◌, ◌<◌, ◌&&◌, ◌||◌, false, ℕ, IsTrue};
-ghost use Rattle.masks.specs.Words.{IsGreatest, IsLeast, has_bit};
+ghost use Rattle.masks.specs.Words.{has_bit};
+ghost use Rattle.masks.specs.internal.Words.{IsGreatest, IsLeast};
 ghost use Rattle.std.specs.FinSet as set;
 ghost use Rattle.std.specs.Option.{option_map_or};
 ghost use Rattle.squares.specs.DraughtsGeometry.{step};
-ghost use Rattle.squares.specs.DraughtsSets.{ascending, PopsSquare};
+ghost use Rattle.squares.specs.DraughtsSets.{ascending};
+ghost use Rattle.squares.specs.internal.DraughtsSets.{PopsSquare};
 ghost use Rattle.std.specs.Ordering.{nat_cmp};
 ghost use Rattle.std.specs.Cmp.Lexicographic.{slice_cmp};
 
@@ -219,7 +221,7 @@ fn in_rows(even: Bitboard50, even_rows: u64, odd: Bitboard50, odd_rows: u64) -> 
 
 impl PartialEq for DSet {
     ghost use Rattle.squares.specs.DraughtsSets.{same_squares};
-    ghost use Rattle.squares.specs.DraughtsSameSquares.{same_squares-partial};
+    ghost use Rattle.squares.specs.internal.DraughtsSameSquares.{same_squares-partial};
 
     ghost eq = { same_squares };
 
@@ -231,7 +233,7 @@ impl PartialEq for DSet {
 }
 
 impl Eq for DSet {
-    ghost use Rattle.squares.specs.DraughtsSameSquares.{same_squares-equivalence};
+    ghost use Rattle.squares.specs.internal.DraughtsSameSquares.{same_squares-equivalence};
 
     ghost laws = { same_squares-equivalence };
 }

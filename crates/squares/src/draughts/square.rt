@@ -1,8 +1,9 @@
 //! Draughts squares, by number.
 ghost use Rattle.std.specs.Prelude.{◌≡◌, ◌↔◌, ◌+◌, ◌%◌, ◌<◌, ◌≤◌, IsSome, IfSome, ℕ};
 ghost use Rattle.std.specs.List.{range_with_len, slice_index};
-ghost use Rattle.squares.specs.DraughtsGeometry.{row_of, column_of, number_at, IsDark, neighbor, step};
-ghost use Rattle.squares.specs.DraughtsTable.{place_of};
+ghost use Rattle.squares.specs.DraughtsGeometry.{row_of, column_of, number_at, neighbor, step};
+ghost use Rattle.squares.specs.internal.DraughtsGeometry.{IsDark};
+ghost use Rattle.squares.specs.internal.DraughtsTable.{place_of};
 
 use crate::draughts::direction::Direction;
 use std::marker::Model;

@@ -3,9 +3,9 @@
 ghost use Rattle.std.specs.Prelude.{◌≡◌, ◌≤◌, ℕ, None, count_by, length};
 ghost use Rattle.std.specs.FinMap as map;
 ghost use Rattle.std.specs.FinSet as set;
-ghost use Rattle.squares.specs.ShogiOrder.{board_cmp};
-ghost use Rattle.squares.specs.ShogiSets.{count_on, holds_kind, holds_king};
-ghost use Rattle.squares.specs.ShogiWords.{is_side, holds};
+ghost use Rattle.squares.specs.internal.ShogiOrder.{board_cmp};
+ghost use Rattle.squares.specs.internal.ShogiSets.{count_on, holds_kind, holds_king};
+ghost use Rattle.squares.specs.internal.ShogiWords.{is_side, holds};
 
 use crate::shogi::piece::{HandKind, Role, SPiece};
 use crate::shogi::square::Ssq;
@@ -30,7 +30,7 @@ impl Model for SBoard {
     ghost use Rattle.std.specs.FinMap as finite_map;
     ghost use Rattle.squares.specs.contracts.shogi.piece.SPiece as piece_type;
     ghost use Rattle.squares.specs.ShogiBoard.{ShogiBoard, shogi_board_of};
-    ghost use Rattle.squares.specs.ShogiWords.{KeepsBoard};
+    ghost use Rattle.squares.specs.internal.ShogiWords.{KeepsBoard};
 
     ghost Value = { ShogiBoard };
 
@@ -143,7 +143,8 @@ impl SBoard {
 }
 
 impl PartialEq for SBoard {
-    ghost use Rattle.squares.specs.ShogiSamePosition.{same_shogi_board, same_shogi_board-partial};
+    ghost use Rattle.squares.specs.ShogiSamePosition.{same_shogi_board};
+    ghost use Rattle.squares.specs.internal.ShogiSamePosition.{same_shogi_board-partial};
 
     ghost eq = { same_shogi_board };
 
@@ -155,7 +156,7 @@ impl PartialEq for SBoard {
 }
 
 impl Eq for SBoard {
-    ghost use Rattle.squares.specs.ShogiSamePosition.{same_shogi_board-equivalence};
+    ghost use Rattle.squares.specs.internal.ShogiSamePosition.{same_shogi_board-equivalence};
 
     ghost laws = { same_shogi_board-equivalence };
 }

@@ -1,7 +1,8 @@
 //! Shogi pieces.
 
 ghost use Rattle.std.specs.Prelude.{◌≡◌, ◌↔◌, IsSome, IfSome};
-ghost use Rattle.squares.specs.ShogiPieces.{kind_of, is_promoted, demoted, promotes_to, CanBe, hand_kind, on_board};
+ghost use Rattle.squares.specs.ShogiPieces.{kind_of, is_promoted, demoted, promotes_to, hand_kind, on_board};
+ghost use Rattle.squares.specs.internal.ShogiPieces.{CanBe};
 
 use crate::sides::Side;
 

@@ -3,8 +3,8 @@
 ghost use Rattle.std.specs.Prelude.{◌≡◌, ◌↔◌, ◌≤◌, ◌+◌, ℕ, None, IsTrue, IsSome, IfSome};
 ghost use Rattle.std.specs.FinMap as map;
 ghost use Rattle.squares.specs.ShogiOpening.{opening};
-ghost use Rattle.squares.specs.ShogiSets.{IsShogiPosition, KeepsSets, HasKings, in_play};
-ghost use Rattle.squares.specs.ShogiSets.{set_size};
+ghost use Rattle.squares.specs.internal.ShogiSets.{IsShogiPosition, KeepsSets, HasKings, in_play};
+ghost use Rattle.squares.specs.internal.ShogiSets.{set_size};
 
 use crate::shogi::board::SBoard;
 use crate::shogi::hand::Hands;
@@ -35,7 +35,8 @@ impl Model for SPos {
     ghost use Rattle.squares.specs.declared.sides.Side.{Side};
     ghost use Rattle.squares.specs.declared.shogi.hand.Hands.{Hands};
     ghost use Rattle.squares.specs.ShogiBoard.{ShogiBoard};
-    ghost use Rattle.squares.specs.ShogiSets.{ShogiPosition, IsShogiPosition};
+    ghost use Rattle.squares.specs.ShogiSets.{ShogiPosition};
+    ghost use Rattle.squares.specs.internal.ShogiSets.{IsShogiPosition};
 
     ghost Value = { ShogiPosition };
 
@@ -141,7 +142,8 @@ impl SPos {
 }
 
 impl PartialEq for SPos {
-    ghost use Rattle.squares.specs.ShogiSamePosition.{same_shogi_position, same_shogi_position-partial};
+    ghost use Rattle.squares.specs.ShogiSamePosition.{same_shogi_position};
+    ghost use Rattle.squares.specs.internal.ShogiSamePosition.{same_shogi_position-partial};
 
     ghost eq = { same_shogi_position };
 
@@ -159,15 +161,15 @@ impl PartialEq for SPos {
 }
 
 impl Eq for SPos {
-    ghost use Rattle.squares.specs.ShogiSamePosition.{same_shogi_position-equivalence};
+    ghost use Rattle.squares.specs.internal.ShogiSamePosition.{same_shogi_position-equivalence};
 
     ghost laws = { same_shogi_position-equivalence };
 }
 
 impl PartialOrd for SPos {
     ghost use Rattle.std.specs.Ordering.{as_partial_cmp};
-    ghost use Rattle.squares.specs.ShogiOrder.{position_cmp};
-    ghost use Rattle.squares.specs.ShogiOrderLaws.{position_cmp-partial};
+    ghost use Rattle.squares.specs.internal.ShogiOrder.{position_cmp};
+    ghost use Rattle.squares.specs.internal.ShogiOrderLaws.{position_cmp-partial};
 
     ghost partial_cmp = { as_partial_cmp position_cmp };
 
@@ -180,8 +182,8 @@ impl PartialOrd for SPos {
 
 impl Ord for SPos {
     ghost use Rattle.std.specs.Prelude.{refl};
-    ghost use Rattle.squares.specs.ShogiOrder.{position_cmp};
-    ghost use Rattle.squares.specs.ShogiOrderLaws.{position_cmp-total, position_cmp-tied};
+    ghost use Rattle.squares.specs.internal.ShogiOrder.{position_cmp};
+    ghost use Rattle.squares.specs.internal.ShogiOrderLaws.{position_cmp-total, position_cmp-tied};
 
     ghost cmp = { position_cmp };
 

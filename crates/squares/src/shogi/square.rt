@@ -2,7 +2,8 @@
 
 ghost use Rattle.std.specs.Prelude.{◌≡◌, ◌↔◌, ◌<◌, ◌≤◌, IsSome, IfSome};
 ghost use Rattle.std.specs.List.{range_with_len};
-ghost use Rattle.squares.specs.ShogiGeometry.{OnShogiBoard, file_of, rank_of, shogi_number};
+ghost use Rattle.squares.specs.ShogiGeometry.{file_of, rank_of, shogi_number};
+ghost use Rattle.squares.specs.internal.ShogiGeometry.{OnShogiBoard};
 
 use std::marker::Model;
 

@@ -2,7 +2,7 @@
 
 ghost use Rattle.std.specs.Prelude.{◌≡◌, ◌<◌, length, slice_set};
 ghost use Rattle.std.specs.FinSet as set;
-ghost use Rattle.squares.specs.ShogiWords.{side_place, role_place, squares_at};
+ghost use Rattle.squares.specs.internal.ShogiWords.{side_place, role_place, squares_at};
 
 use crate::shogi::piece::Role;
 use crate::shogi::square::Ssq;

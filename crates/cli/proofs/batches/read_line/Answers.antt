@@ -2,9 +2,9 @@ use Rattle.std.proofs.Common.{List, map}
 use Rattle.std.proofs.lemmas.Result.{IfErr-weaker, IfOk-weaker}
 use Rattle.std.specs.Borrow.{Bor}
 use Rattle.clap.specs.Words.{Text}
-use Rattle.cli.specs.App.{line_app}
+use Rattle.cli.specs.internal.App.{line_app}
 use Rattle.cli.specs.Asked.{HasNoCommand}
-use Rattle.cli.specs.Said.{AsksOneLine}
+use Rattle.cli.specs.internal.Said.{AsksOneLine}
 use Rattle.cli.proofs.AppLemmas.{line_is_simple, line_needs_word}
 use Rattle.cli.proofs.SaidLemmas.{error_said, failed, none_said, passed, said_by}
 use Rattle.cli.proofs.batches.read_line.Goals as goal

@@ -2,7 +2,7 @@ use Rattle.std.proofs.Common.{ap, sym, subst, ◌∙◌}
 use Rattle.std.proofs.lemmas.Result.{IfOk-weaker}
 use Rattle.club_rows.proofs.Proved.{in_draughts, in_shogi}
 use Rattle.club_rows.specs.Club.{both_games, tables}
-use Rattle.club_changes.specs.Steps.{FindsSeenRows}
+use Rattle.club_changes.specs.internal.Steps.{FindsSeenRows}
 use Rattle.club_changes.proofs.Proved.{stored_as, tells-seen}
 use Rattle.club_answers.specs.Boards.{diagram_of}
 use Rattle.club_answers.proofs.boards.diagram_in.Goals as goal

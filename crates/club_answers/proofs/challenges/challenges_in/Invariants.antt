@@ -1,7 +1,7 @@
 use Rattle.std.proofs.Common.{◌≡◌, map, take}
 use Rattle.sqlite_trees.specs.Tree.{IsAscending}
 use Rattle.club_rows.specs.Tables.{challenge_row}
-use Rattle.store_tables.specs.Cells.{challenge_cells}
+use Rattle.store_tables.specs.internal.Cells.{challenge_cells}
 use Rattle.club_answers.specs.Challenges.{ComesBefore}
 use Rattle.club_answers.proofs.challenges.challenges_in.Given as goal
 

@@ -1,6 +1,6 @@
 use Rattle.std.proofs.Common.{◌≡◌, ◌+◌, ◌++◌, ◌∷◌, map, drop, length}
 use Rattle.std.specs.Prelude.{string_bytes}
-use Rattle.club_core.specs.Answer.{members_of}
+use Rattle.club_core.specs.internal.Answer.{members_of}
 use Rattle.cross_tables.specs.Lines.{header_text}
 use Rattle.club_answers.specs.CrossTable.{lines_from}
 use Rattle.club_answers.proofs.cross_table.lines_of.Given as goal

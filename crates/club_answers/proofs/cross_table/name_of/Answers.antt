@@ -1,6 +1,6 @@
 use Rattle.std.proofs.Common.{◌-◌, sym, length, ap, ◌∙◌}
 use Rattle.std.proofs.lemmas.Bool.{ltb-true}
-use Rattle.club_core.specs.Answer.{member_of}
+use Rattle.club_core.specs.internal.Answer.{member_of}
 use Rattle.club_answers.specs.CrossTable.{name_in}
 use Rattle.club_changes.proofs.Proved.{placed}
 use Rattle.club_answers.proofs.cross_table.name_of.Goals as goal

@@ -5,11 +5,11 @@ use Rattle.club_core.specs.Events as core
 use Rattle.club_core.specs.Game.{Game}
 use Rattle.club_core.specs.Legal.{IsLegalGame}
 use Rattle.club_exports.specs.Title.{Title}
-use Rattle.club_exports.specs.Exported.{IsWritten, IsUnderWay}
+use Rattle.club_exports.specs.internal.Exported.{IsWritten, IsUnderWay}
 use Rattle.store_tables.specs.Over.{HasRows}
 use Rattle.store_tables.specs.Contents.{Content}
 use Rattle.store_tables.specs.Reading.{Reads}
-use Rattle.club_changes.specs.Steps.{FindsMoveRows}
+use Rattle.club_changes.specs.internal.Steps.{FindsMoveRows}
 use Rattle.club_answers.proofs.exported.write_plies.Given as goal
 
 abbrev pub invariant-loop-ply : goal.invariant-loop-ply

@@ -1,9 +1,9 @@
 use Rattle.std.proofs.Common.{◌≡◌, ◌+◌, ◌++◌, map, drop}
 use Rattle.club_rows.specs.Club.{ClubState, IsClub}
 use Rattle.club_rows.specs.Tables.{numbered_from}
-use Rattle.club_changes.specs.Steps.{game_in}
+use Rattle.club_changes.specs.internal.Steps.{game_in}
 use Rattle.store_tables.specs.Cells.{game_cells}
-use Rattle.club_lists.specs.SummaryViews.{summaries_of}
+use Rattle.club_lists.specs.internal.SummaryViews.{summaries_of}
 use Rattle.club_answers.specs.Games.{game_summaries_from, game_summaries}
 use Rattle.club_answers.proofs.games.entries_of.Given as goal
 

@@ -1,5 +1,5 @@
 use Rattle.std.proofs.Common.{◌∙◌}
-use Rattle.club_rows.specs.Columns.{columns_in}
+use Rattle.club_rows.specs.internal.Columns.{columns_in}
 use Rattle.club_answers.proofs.ToldRows.{told_by_columns, told_row}
 use Rattle.club_answers.proofs.games.entry_of.Goals as goal
 

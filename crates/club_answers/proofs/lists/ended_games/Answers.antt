@@ -1,7 +1,7 @@
 use Rattle.std.proofs.Common.{ap, ◌∙◌}
-use Rattle.club_core.specs.Answer.{events_of, members_of}
+use Rattle.club_core.specs.internal.Answer.{events_of, members_of}
 use Rattle.club_lists.specs.Ended.{ended_games_json}
-use Rattle.club_lists.specs.SummaryViews.{summaries_of}
+use Rattle.club_lists.specs.internal.SummaryViews.{summaries_of}
 use Rattle.club_answers.proofs.lists.ended_games.Goals as goal
 
 pub returns : goal.returns

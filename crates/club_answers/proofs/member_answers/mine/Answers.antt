@@ -1,8 +1,8 @@
 use Rattle.store_tables.proofs.Proved.{reads_on}
 use Rattle.std.proofs.Common.{ap, subst, map, ◌∙◌}
-use Rattle.club_core.specs.Answer.{events_of, members_of}
+use Rattle.club_core.specs.internal.Answer.{events_of, members_of}
 use Rattle.club_lists.specs.Shows.{my_games_json, own_game_ids}
-use Rattle.club_lists.specs.SummaryViews.{running_view, summaries_of}
+use Rattle.club_lists.specs.internal.SummaryViews.{running_view, summaries_of}
 use Rattle.club_answers.specs.Running.{AreRunningAt}
 use Rattle.club_answers.proofs.CallLemmas.{between_three}
 use Rattle.club_answers.proofs.member_answers.mine.Goals as goal

@@ -2,7 +2,7 @@ use Rattle.store_tables.proofs.Proved.{reads_on}
 use Rattle.std.proofs.Common.{ap, ◌∙◌}
 use Rattle.std.specs.Prelude.{max}
 use Rattle.serde_json.specs.Written.{compact_text}
-use Rattle.club_core.specs.Answer.{members_of}
+use Rattle.club_core.specs.internal.Answer.{members_of}
 use Rattle.club_changes.proofs.Proved.{place_at}
 use Rattle.club_lists.specs.Clock.{clock_data}
 use Rattle.club_answers.proofs.CallLemmas.{between}

@@ -4,7 +4,7 @@ use Rattle.sqlite.specs.State.{HasCleanDisk}
 use Rattle.store_tables.specs.Over.{HasRows}
 use Rattle.store_tables.specs.Reading.{Reads}
 use Rattle.club_rows.specs.Club.{ClubState, IsClub, tables}
-use Rattle.club_answers.specs.Writing.{HasRecords}
+use Rattle.club_answers.specs.internal.Writing.{HasRecords}
 use Rattle.club_answers.proofs.RecordLemmas.{opens}
 use Rattle.club_answers.proofs.records.write_records.Given as goal
 

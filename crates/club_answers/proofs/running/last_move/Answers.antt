@@ -1,5 +1,5 @@
 use Rattle.std.proofs.Common.{Some, None}
-use Rattle.club_rows.specs.Replay.{terms_given}
+use Rattle.club_rows.specs.internal.Replay.{terms_given}
 use Rattle.club_answers.proofs.RunningLemmas.{last_is}
 use Rattle.club_answers.proofs.running.last_move.Goals as goal
 

@@ -1,7 +1,7 @@
 use Rattle.std.proofs.Common.{◌≡◌, ◌∷◌, [], true, rules}
 use Rattle.std.proofs.lemmas.Option.{slice_get-get_or}
 use Rattle.sqlite_trees.proofs.ListLemmas.{ascending-append, all_weaker}
-use Rattle.store_tables.specs.Cells.{score_cells}
+use Rattle.store_tables.specs.internal.Cells.{score_cells}
 use Rattle.club_answers.specs.CrossTable.{ComesBefore, scored_row}
 use Rattle.club_answers.proofs.ViewedLemmas.{one_more}
 use Rattle.club_answers.proofs.scored.scored_rows.Goals as goal

@@ -1,6 +1,6 @@
 use Rattle.std.proofs.Common.{◌≡◌, map, take}
 use Rattle.sqlite_trees.specs.Tree.{IsAscending}
-use Rattle.store_tables.specs.Cells.{score_cells}
+use Rattle.store_tables.specs.internal.Cells.{score_cells}
 use Rattle.club_answers.specs.CrossTable.{scored_row, ComesBefore}
 use Rattle.club_answers.proofs.scored.scored_rows.Given as goal
 

@@ -1,5 +1,5 @@
 use Rattle.store_tables.proofs.Proved.{clean_before, rows_after, reads_on}
-use Rattle.club_rows.specs.Replay.{terms_given}
+use Rattle.club_rows.specs.internal.Replay.{terms_given}
 use Rattle.club_answers.proofs.viewed.make_played.Goals as goal
 
 pub returns-clause-reads : goal.returns-clause-reads

@@ -1,6 +1,6 @@
 use Rattle.std.proofs.Common.{sym, subst, ◌∙◌}
 use Rattle.club_rows.proofs.Proved.{same-pos}
-use Rattle.club_audit.specs.Audit.{NamesRule}
+use Rattle.club_audit.specs.internal.Audit.{NamesRule}
 use Rattle.club_audit.proofs.GamePlaces.{no-event, no-rule, placed-first}
 use Rattle.club_audit.proofs.audit.wrong_game.Goals as goal
 

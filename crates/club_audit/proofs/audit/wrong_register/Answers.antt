@@ -1,6 +1,6 @@
 use Rattle.std.proofs.Common.{◌≡◌, [], ap, length, pos, sym, subst₂, arith, ◌∙◌, true≢false}
 use Rattle.std.proofs.lemmas.Int.{ints}
-use Rattle.club_audit.specs.Audit.{AreRules, IsRightInRegister}
+use Rattle.club_audit.specs.internal.Audit.{AreRules, IsRightInRegister}
 use Rattle.club_audit.proofs.FirstLemmas.{up-to-none, with-next}
 use Rattle.club_audit.proofs.PeopleLemmas.{events-count, members-count, ruled-of, rules-counted}
 use Rattle.club_rows.specs.Club.{ClubState}

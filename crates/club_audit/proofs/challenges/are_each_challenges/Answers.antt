@@ -1,5 +1,5 @@
 use Rattle.std.proofs.Common.{arith, sym, ◌∙◌}
-use Rattle.club_audit.specs.ChallengeAudit.{IsChallengeOf}
+use Rattle.club_audit.specs.internal.ChallengeAudit.{IsChallengeOf}
 use Rattle.std.proofs.lemmas.Option.{slice_get-get_or}
 use Rattle.club_audit.proofs.PlacedLemmas.{below-more, below-all}
 use Rattle.club_audit.proofs.challenges.are_each_challenges.Goals as goal

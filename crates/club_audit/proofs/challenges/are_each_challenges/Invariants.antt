@@ -1,4 +1,4 @@
-use Rattle.club_audit.specs.ChallengeAudit.{IsChallengeOf}
+use Rattle.club_audit.specs.internal.ChallengeAudit.{IsChallengeOf}
 use Rattle.club_audit.proofs.PlacedLemmas.{Below}
 use Rattle.club_audit.proofs.challenges.are_each_challenges.Given as goal
 

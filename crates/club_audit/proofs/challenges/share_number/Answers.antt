@@ -2,7 +2,7 @@ use Rattle.std.proofs.Common.{Some, ap, arith, sym, ◌∙◌}
 use Rattle.std.specs.List.{list_any}
 use Rattle.std.proofs.lemmas.Bool.{not-true, not-false}
 use Rattle.std.proofs.lemmas.Option.{slice_get-get_or}
-use Rattle.club_audit.specs.ChallengeKeys.{key_in, same_number}
+use Rattle.club_audit.specs.internal.ChallengeKeys.{key_in, same_number}
 use Rattle.club_audit.proofs.KeyLemmas.{always-apart, apart-always, kept-all, kept-clash, kept-more, as_it_is}
 use Rattle.club_audit.proofs.KeyLemmas.{numbers-told, some_key}
 use Rattle.club_audit.proofs.challenges.share_number.Goals as goal

@@ -1,5 +1,5 @@
 use Rattle.std.specs.HashSet.{contains}
-use Rattle.club_audit.specs.ChallengeKeys.{same_number}
+use Rattle.club_audit.specs.internal.ChallengeKeys.{same_number}
 use Rattle.club_audit.proofs.KeyLemmas.{AreKept, as_it_is, some_key}
 use Rattle.club_audit.proofs.challenges.share_number.Given as goal
 

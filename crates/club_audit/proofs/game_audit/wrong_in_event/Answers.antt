@@ -1,6 +1,6 @@
 use Rattle.std.proofs.Common.{rules}
 use Rattle.club_rules.specs.declared.names.GameKind.TheVariants.{Draughts, Shogi}
-use Rattle.club_rows.specs.Replay.{terms_given}
+use Rattle.club_rows.specs.internal.Replay.{terms_given}
 use Rattle.club_audit.proofs.GamePlaces.{event-first, no-kind, no-terms}
 use Rattle.club_audit.proofs.game_audit.wrong_in_event.Goals as goal
 

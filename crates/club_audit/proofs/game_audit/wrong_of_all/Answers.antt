@@ -1,6 +1,6 @@
 use Rattle.std.proofs.Common.{◌≡◌, arith, pos, sym, ◌∙◌, true≢false}
 use Rattle.std.proofs.lemmas.Int.{ints}
-use Rattle.club_rows.specs.Replay.{terms_given}
+use Rattle.club_rows.specs.internal.Replay.{terms_given}
 use Rattle.club_audit.proofs.GamePlaces.{given-last, last-given, late-end, late-game, none-late, own-rows, shown-by}
 use Rattle.club_audit.proofs.GamePlaces.{wrong-seen}
 use Rattle.club_audit.proofs.game_audit.wrong_of_all.Goals as goal

@@ -1,6 +1,6 @@
 use Rattle.std.proofs.Common.{refl, arith, sym, ◌∙◌}
 use Rattle.std.proofs.lemmas.Option.{slice_get_read}
-use Rattle.club_audit.specs.Audit.{IsEventAt}
+use Rattle.club_audit.specs.internal.Audit.{IsEventAt}
 use Rattle.club_audit.proofs.PeopleLemmas.{events-from, events-count, events-at}
 use Rattle.club_audit.proofs.PlacedLemmas.{below-read, below-all}
 use Rattle.club_audit.proofs.people.are_events.Goals as goal

@@ -1,4 +1,4 @@
-use Rattle.club_audit.specs.Audit.{IsEventAt}
+use Rattle.club_audit.specs.internal.Audit.{IsEventAt}
 use Rattle.club_audit.proofs.PlacedLemmas.{Below}
 use Rattle.club_audit.proofs.people.are_events.Given as goal
 

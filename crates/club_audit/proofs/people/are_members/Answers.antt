@@ -1,6 +1,6 @@
 use Rattle.std.proofs.Common.{refl, arith, sym, ◌∙◌}
 use Rattle.std.proofs.lemmas.Option.{slice_get_read}
-use Rattle.club_audit.specs.Audit.{IsMemberAt}
+use Rattle.club_audit.specs.internal.Audit.{IsMemberAt}
 use Rattle.club_audit.proofs.PeopleLemmas.{members-from, members-count, members-at}
 use Rattle.club_audit.proofs.PlacedLemmas.{below-read, below-all}
 use Rattle.club_audit.proofs.people.are_members.Goals as goal

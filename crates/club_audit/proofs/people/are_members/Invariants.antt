@@ -1,4 +1,4 @@
-use Rattle.club_audit.specs.Audit.{IsMemberAt}
+use Rattle.club_audit.specs.internal.Audit.{IsMemberAt}
 use Rattle.club_audit.proofs.PlacedLemmas.{Below}
 use Rattle.club_audit.proofs.people.are_members.Given as goal
 

@@ -1,6 +1,6 @@
 use Rattle.std.proofs.Common.{arith, rules, sym, ◌∙◌}
 use Rattle.std.proofs.lemmas.Option.{slice_get-get_or}
-use Rattle.club_audit.specs.Audit.{IsRuleAt}
+use Rattle.club_audit.specs.internal.Audit.{IsRuleAt}
 use Rattle.club_audit.proofs.PlacedLemmas.{below-more, below-all}
 use Rattle.club_audit.proofs.people.are_rules.Goals as goal
 

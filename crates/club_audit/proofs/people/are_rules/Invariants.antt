@@ -1,4 +1,4 @@
-use Rattle.club_audit.specs.Audit.{IsRuleAt}
+use Rattle.club_audit.specs.internal.Audit.{IsRuleAt}
 use Rattle.club_audit.proofs.PlacedLemmas.{Below}
 use Rattle.club_audit.proofs.people.are_rules.Given as goal
 

@@ -1,6 +1,6 @@
 use Rattle.std.proofs.Common.{refl, arith, sym, ◌∙◌, true≢false}
 use Rattle.std.proofs.lemmas.Option.{slice_get_read}
-use Rattle.club_audit.specs.Audit.{IsOtherMember}
+use Rattle.club_audit.specs.internal.Audit.{IsOtherMember}
 use Rattle.club_audit.proofs.PlacedLemmas.{below-read, below-all}
 use Rattle.club_audit.proofs.people.is_taken.Goals as goal
 

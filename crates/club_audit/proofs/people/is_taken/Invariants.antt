@@ -1,4 +1,4 @@
-use Rattle.club_audit.specs.Audit.{IsOtherMember}
+use Rattle.club_audit.specs.internal.Audit.{IsOtherMember}
 use Rattle.club_audit.proofs.PlacedLemmas.{Below}
 use Rattle.club_audit.proofs.people.is_taken.Given as goal
 

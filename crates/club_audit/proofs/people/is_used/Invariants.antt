@@ -1,4 +1,4 @@
-use Rattle.club_audit.specs.Audit.{IsOtherEvent}
+use Rattle.club_audit.specs.internal.Audit.{IsOtherEvent}
 use Rattle.club_audit.proofs.PlacedLemmas.{Below}
 use Rattle.club_audit.proofs.people.is_used.Given as goal
 

@@ -5,7 +5,7 @@ use Rattle.std.proofs.lemmas.List.{nil_from_length}
 use Rattle.std.proofs.lemmas.Map.Text.{hash_map_updates_str}
 use Rattle.std.proofs.lemmas.Option.{slice_get_read}
 use Rattle.club_laws.proofs.Proved.{bytes_eq-same}
-use Rattle.club_audit.specs.SeenAudit.{found_in}
+use Rattle.club_audit.specs.internal.SeenAudit.{found_in}
 use Rattle.club_audit.proofs.SeenCounts.{matched-more, matched-sound, matched-next, matched-all}
 use Rattle.club_audit.proofs.KeyLemmas.{lent, no-entries}
 use Rattle.club_audit.proofs.seen_audit.are_counted.Goals as goal

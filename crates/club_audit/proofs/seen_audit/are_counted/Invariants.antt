@@ -1,4 +1,4 @@
-use Rattle.club_audit.specs.SeenAudit.{found_in}
+use Rattle.club_audit.specs.internal.SeenAudit.{found_in}
 use Rattle.club_audit.proofs.SeenCounts.{Matched}
 use Rattle.club_audit.proofs.seen_audit.are_counted.Given as goal
 

@@ -2,7 +2,7 @@ use Rattle.std.proofs.Common.{ap, sym, subst, ◌∙◌, arith, map}
 use Rattle.store_tables.specs.Cells.{seen_cells}
 use Rattle.club_rows.specs.EachOnce.{AreEachOnce}
 use Rattle.club_rows.specs.Seen.{rows_of_texts}
-use Rattle.club_audit.specs.SeenAudit.{texts_in}
+use Rattle.club_audit.specs.internal.SeenAudit.{texts_in}
 use Rattle.club_audit.proofs.SeenCounts.{texts-told, moves-count}
 use Rattle.club_audit.proofs.seen_audit.are_seen.Goals as goal
 

@@ -1,8 +1,8 @@
 use Rattle.std.proofs.Common.{rules, ◌≡◌, ◌≤◌, length, Some, cond, ap, sym, subst, ◌∙◌, arith}
 use Rattle.std.specs.Str.{bytes_eq}
 use Rattle.std.proofs.lemmas.Map.Text.{hash_map_updates_str}
-use Rattle.club_audit.specs.SeenAudit.{IsCountOf, found_in}
-use Rattle.club_rows.specs.Tally.{stood_then}
+use Rattle.club_audit.specs.internal.SeenAudit.{IsCountOf, found_in}
+use Rattle.club_rows.specs.internal.Tally.{stood_then}
 use Rattle.club_audit.proofs.SeenCounts.{counted-few, counted-more}
 use Rattle.club_audit.proofs.seen_audit.count.Goals as goal
 

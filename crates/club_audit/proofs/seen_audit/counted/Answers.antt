@@ -3,7 +3,7 @@ use Rattle.std.specs.Str.{bytes_eq}
 use Rattle.std.specs.Map.{lookup}
 use Rattle.std.proofs.lemmas.List.{take_all}
 use Rattle.std.proofs.lemmas.Option.{slice_get_read}
-use Rattle.club_audit.specs.SeenAudit.{AreCounted, found_in, texts_in}
+use Rattle.club_audit.specs.internal.SeenAudit.{AreCounted, found_in, texts_in}
 use Rattle.club_audit.proofs.SeenCounts.{counted-start, texts-step, texts-length}
 use Rattle.club_audit.proofs.seen_audit.counted.Goals as goal
 

@@ -1,5 +1,5 @@
 use Rattle.std.proofs.Common.{◌≤◌, length, take}
-use Rattle.club_audit.specs.SeenAudit.{AreCounted, found_in, texts_in}
+use Rattle.club_audit.specs.internal.SeenAudit.{AreCounted, found_in, texts_in}
 use Rattle.club_audit.proofs.seen_audit.counted.Given as goal
 
 abbrev pub invariant-loop-index : goal.invariant-loop-index

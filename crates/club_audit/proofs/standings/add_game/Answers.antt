@@ -1,7 +1,7 @@
 use Rattle.std.proofs.Common.{◌<◌, ◌^◌, ◌++◌, ◌∷◌, [], length, subst, sym}
 use Rattle.club_rows.specs.Scores.{Meeting, own_first, own_second}
-use Rattle.club_audit.specs.Standings.{AreStandings}
-use Rattle.club_rows.specs.Pairs.{firsts_pair, seconds_pair}
+use Rattle.club_audit.specs.internal.Standings.{AreStandings}
+use Rattle.club_rows.specs.internal.Pairs.{firsts_pair, seconds_pair}
 use Rattle.club_rows.specs.declared.scores.OwnScore.{OwnScore}
 use Rattle.club_rows.specs.declared.scores.Pair.{Pair}
 use Rattle.club_audit.proofs.StandingLemmas.{told_some, both_added}

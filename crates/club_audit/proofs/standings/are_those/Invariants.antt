@@ -1,4 +1,4 @@
-use Rattle.club_rows.specs.Pairs.{sums_at}
+use Rattle.club_rows.specs.internal.Pairs.{sums_at}
 use Rattle.club_audit.proofs.StandingLemmas.{IsLeft}
 use Rattle.club_audit.proofs.standings.are_those.Given as goal
 

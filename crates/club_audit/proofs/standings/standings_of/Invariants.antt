@@ -1,6 +1,6 @@
 use Rattle.std.proofs.Common.{◌<◌, ◌^◌, List, length}
 use Rattle.club_rows.specs.Scores.{Meeting}
-use Rattle.club_audit.specs.Standings.{AreTold}
+use Rattle.club_audit.specs.internal.Standings.{AreTold}
 use Rattle.club_audit.proofs.StandingLemmas.{AreCounted}
 use Rattle.club_audit.proofs.standings.standings_of.Given as goal
 

@@ -1,7 +1,7 @@
 use Rattle.std.proofs.Common.{◌≡◌, ◌++◌, ap, inl, subst, sym, ◌∙◌}
 use Rattle.std.specs.Prelude.{codes}
 use Rattle.cli.specs.declared.words.BadWords.TheVariants.{Text}
-use Rattle.club_batches.specs.Orders.{IsErrorWith, IsParserMessage, SaysOfLine, line_error}
+use Rattle.club_batches.specs.internal.Orders.{IsErrorWith, IsParserMessage, SaysOfLine, line_error}
 use Rattle.club_batches.proofs.OrderLemmas.{error_with}
 use Rattle.club_batches.proofs.orders.bad_words.Goals as goal
 

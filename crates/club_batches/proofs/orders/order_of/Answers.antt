@@ -1,7 +1,7 @@
 use Rattle.std.proofs.Common.{◌≡◌, map, ap, inl, inr, refl, subst, sym, ◌∙◌}
 use Rattle.std.specs.Prelude.{codes}
-use Rattle.cli.specs.Said.{AreRefusedInLine, AreSaidInLine}
-use Rattle.club_batches.specs.Orders.{IsNoOrder, IsParserMessage, Line, SaysOfLine, line_error}
+use Rattle.cli.specs.internal.Said.{AreRefusedInLine, AreSaidInLine}
+use Rattle.club_batches.specs.internal.Orders.{IsNoOrder, IsParserMessage, Line, SaysOfLine, line_error}
 use Rattle.club_batches.proofs.OrderLemmas.{error_with}
 use Rattle.club_batches.proofs.orders.order_of.Goals as goal
 

@@ -2,7 +2,7 @@ use Rattle.std.proofs.Common.{◌≡◌, ◌∷◌, [], ◌+◌, false, arith, l
 use Rattle.std.specs.Str.Lines.{lines}
 use Rattle.std.proofs.lemmas.Iterator.Consumers.{YieldsList-at, YieldsList-end, YieldsList-turn}
 use Rattle.std.proofs.lemmas.Iterator.Splits.{YieldsList-from_lines}
-use Rattle.club_batches.specs.Orders.{HasBadLine, IsAdded, IsBadLine, IsErrorWith, SaysOfLine, is_passed_over}
+use Rattle.club_batches.specs.internal.Orders.{HasBadLine, IsAdded, IsBadLine, IsErrorWith, SaysOfLine, is_passed_over}
 use Rattle.club_batches.proofs.OrderLemmas.{AreRead, IsAt, all_read, bad_line_found, error_with, few_lines, line_read}
 use Rattle.club_batches.proofs.orders.orders_in.Goals as goal
 

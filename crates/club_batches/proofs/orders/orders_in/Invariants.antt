@@ -1,6 +1,6 @@
 use Rattle.std.proofs.Common.{◌≡◌, ◌≤◌, length}
 use Rattle.std.specs.Str.Lines.{lines}
-use Rattle.club_batches.specs.Orders.{most_orders}
+use Rattle.club_batches.specs.internal.Orders.{most_orders}
 use Rattle.club_batches.proofs.OrderLemmas.{AreRead}
 use Rattle.club_batches.proofs.orders.orders_in.Given as goal
 

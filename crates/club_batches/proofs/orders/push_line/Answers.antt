@@ -1,6 +1,6 @@
 use Rattle.std.proofs.Common.{◌≡◌, length, arith, inl, inr, refl}
 use Rattle.std.specs.Prelude.{codes}
-use Rattle.club_batches.specs.Orders.{IsBadLine, IsNoOrder, Line, SaysOfLine, line_error}
+use Rattle.club_batches.specs.internal.Orders.{IsBadLine, IsNoOrder, Line, SaysOfLine, line_error}
 use Rattle.club_batches.proofs.OrderLemmas.{error_with}
 use Rattle.club_batches.proofs.orders.push_line.Goals as goal
 

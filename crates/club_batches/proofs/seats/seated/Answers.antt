@@ -3,7 +3,7 @@ use Rattle.std.proofs.lemmas.List.{drop_more}
 use Rattle.pairings.specs.declared.table.BoardPairing.{BoardPairing}
 use Rattle.club_core.specs.Answer.{request_of}
 use Rattle.club_core.specs.State.{Command, Request, officer}
-use Rattle.club_batches.specs.Orders.{order_at}
+use Rattle.club_batches.specs.internal.Orders.{order_at}
 use Rattle.club_batches.specs.Seats.{seat_request}
 use Rattle.club_batches.proofs.SeatLemmas.{one_more, one_number}
 use Rattle.club_batches.proofs.seats.seated.Goals as goal

@@ -1,5 +1,5 @@
 use Rattle.std.proofs.lemmas.Result.{IfOk-weaker}
-use Rattle.club_core.specs.Answer.{events_of}
+use Rattle.club_core.specs.internal.Answer.{events_of}
 use Rattle.club_changes.proofs.ChallengedTables.{begun_started}
 use Rattle.club_changes.proofs.FoundLemmas.{both_ok}
 use Rattle.club_changes.proofs.challenges.begun_rows.Goals as goal

@@ -1,4 +1,4 @@
-use Rattle.store_tables.specs.Cells.{challenge_cells}
+use Rattle.store_tables.specs.internal.Cells.{challenge_cells}
 use Rattle.club_changes.proofs.ReadRows.{one_pushed}
 use Rattle.club_changes.proofs.challenges.with_challenge.Goals as goal
 

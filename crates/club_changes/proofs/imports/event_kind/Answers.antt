@@ -1,5 +1,5 @@
 use Rattle.std.proofs.Common.{◌≡◌, true, false, sym, ◌∙◌, rules}
-use Rattle.club_core.specs.Answer.{event_of}
+use Rattle.club_core.specs.internal.Answer.{event_of}
 use Rattle.club_core.specs.Events.{has_event_name}
 use Rattle.club_changes.proofs.ImportLemmas.{kind_at_place}
 use Rattle.club_changes.proofs.imports.event_kind.Goals as goal

@@ -1,5 +1,5 @@
 use Rattle.std.proofs.Common.{◌≡◌, drop}
-use Rattle.club_core.specs.Answer.{events_of}
+use Rattle.club_core.specs.internal.Answer.{events_of}
 use Rattle.club_core.specs.Events.{event_kind}
 use Rattle.club_changes.proofs.imports.event_kind.Given as goal
 

@@ -2,10 +2,12 @@ use Rattle.std.proofs.Common.{◌≡◌, ◌+◌, ◌≤◌, length, sym, ap, �
 use Rattle.std.proofs.lemmas.List.{length-map}
 use Rattle.club_requests.specs.Outcome.{by_officer}
 use Rattle.club_core.specs.Events.{Event, declaring, event_step}
-use Rattle.club_core.specs.Answer.{answered, events_of, added_event}
+use Rattle.club_core.specs.Answer.{answered, added_event}
+use Rattle.club_core.specs.internal.Answer.{events_of}
 use Rattle.club_core.specs.State.{with_events}
 use Rattle.club_rows.specs.Tables.{event_row, rule_row}
-use Rattle.store_tables.specs.Cells.{event_cells, event_rule_cells}
+use Rattle.store_tables.specs.Cells.{event_cells}
+use Rattle.store_tables.specs.internal.Cells.{event_rule_cells}
 use Rattle.club_changes.proofs.OutcomeLemmas.{officer_none, event_decided, event_limits}
 use Rattle.club_changes.proofs.PlayedLemmas.{budget_most, increment_most}
 use Rattle.club_changes.proofs.ReadRows.{one_pushed}

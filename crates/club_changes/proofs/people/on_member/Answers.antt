@@ -2,10 +2,11 @@ use Rattle.std.proofs.Common.{◌≡◌, ◌+◌, length, string_bytes, sym, ap,
 use Rattle.std.proofs.lemmas.List.{length-map}
 use Rattle.club_requests.specs.Outcome.{by_officer}
 use Rattle.club_core.specs.Members.{Member, member_step}
-use Rattle.club_core.specs.Answer.{answered, members_of}
+use Rattle.club_core.specs.Answer.{answered}
+use Rattle.club_core.specs.internal.Answer.{members_of}
 use Rattle.club_core.specs.State.{with_members}
 use Rattle.club_rows.specs.Tables.{member_row}
-use Rattle.store_tables.specs.Cells.{member_cells}
+use Rattle.store_tables.specs.internal.Cells.{member_cells}
 use Rattle.club_changes.proofs.OutcomeLemmas.{officer_none, member_decided}
 use Rattle.club_changes.proofs.ReadRows.{one_pushed}
 use Rattle.club_changes.proofs.people.on_member.Goals as goal

@@ -1,6 +1,6 @@
 use Rattle.std.proofs.Common.{◌-◌, sym, length}
 use Rattle.std.proofs.lemmas.Bool.{ltb-true}
-use Rattle.club_core.specs.Answer.{event_of}
+use Rattle.club_core.specs.internal.Answer.{event_of}
 use Rattle.club_changes.proofs.ReadRows.{placed}
 use Rattle.club_changes.proofs.seats.event_at.Goals as goal
 

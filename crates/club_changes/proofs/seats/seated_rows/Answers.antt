@@ -1,12 +1,12 @@
 use Rattle.std.proofs.Common.{◌≡◌, [], ◌∷◌, Some, ap, sym, subst, subst₂, ◌∙◌}
 use Rattle.std.specs.Option.{option_map}
 use Rattle.std.specs.Prelude.{IsTrue}
-use Rattle.club_core.specs.Answer.{event_of, events_of}
+use Rattle.club_core.specs.internal.Answer.{event_of, events_of}
 use Rattle.club_core.specs.LegalState.{IsLegalEvent}
 use Rattle.club_requests.specs.Limits.{is_budget}
 use Rattle.club_core.specs.State.{place, kind_at, terms_at}
 use Rattle.club_laws.proofs.Proved.{in-place}
-use Rattle.club_changes.specs.Steps.{first_row, first_meetings, Puts, no_rows}
+use Rattle.club_changes.specs.internal.Steps.{first_row, first_meetings, Puts, no_rows}
 use Rattle.club_changes.proofs.ClubPlayed.{started_first, started_seen_first}
 use Rattle.club_changes.proofs.seats.seated_rows.Goals as goal
 

@@ -2,7 +2,7 @@ use Rattle.std.specs.Option.{option_map}
 use Rattle.std.proofs.Common.{None, ap, refl, sym, ◌∙◌}
 use Rattle.club_core.specs.Game.{end_with, score_with}
 use Rattle.club_core.specs.State.{seated}
-use Rattle.club_rows.specs.Replay.{terms_given}
+use Rattle.club_rows.specs.internal.Replay.{terms_given}
 use Rattle.store_tables.specs.Cells.{game_cells, seen_cells}
 use Rattle.club_changes.proofs.ReadRows.{one_pushed}
 use Rattle.club_changes.proofs.ClubPlayed.{seated_cells}

@@ -1,5 +1,5 @@
 use Rattle.std.proofs.Common.{arith, inl, refl, sym, subst, inr}
-use Rattle.club_audit.specs.Audit.{AreApartGames}
+use Rattle.club_audit.specs.internal.Audit.{AreApartGames}
 use Rattle.club_audit.proofs.Proved.{events-count, members-count}
 use Rattle.club_check.proofs.ExaminedLemmas.{people_of}
 use Rattle.store_tables.specs.declared.names.Table.TheVariants.{Challenges, Games}

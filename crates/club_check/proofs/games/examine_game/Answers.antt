@@ -1,8 +1,8 @@
 use Rattle.store_tables.proofs.Proved.{clean_before, reads_on}
 use Rattle.std.proofs.Common.{List, length, Some, ap, inl, inr, refl, sym, subst, subst₂, ◌∙◌, arith}
-use Rattle.club_audit.specs.Audit.{HasPeople}
-use Rattle.club_audit.specs.FirstWrong.{IsFirstWrong}
-use Rattle.club_audit.specs.GameAudit.{IsRightAt}
+use Rattle.club_audit.specs.internal.Audit.{HasPeople}
+use Rattle.club_audit.specs.internal.FirstWrong.{IsFirstWrong}
+use Rattle.club_audit.specs.internal.GameAudit.{IsRightAt}
 use Rattle.club_rows.specs.Club.{ClubState}
 use Rattle.sqlite.specs.Held.{state}
 use Rattle.store_tables.specs.Cells.{IsMove}
@@ -10,8 +10,8 @@ use Rattle.store_tables.specs.Tables.{moves}
 use Rattle.store_tables.specs.declared.names.Table.TheVariants.{Moves, Seen}
 use Rattle.store_tables.specs.declared.rows.MoveRow.{MoveRow}
 use Rattle.store_tables.specs.declared.rows.SeenRow.{SeenRow}
-use Rattle.club_check.specs.Examined.{IsGameFound}
-use Rattle.club_check.specs.RightTables.{IsUntyped}
+use Rattle.club_check.specs.internal.Examined.{IsGameFound}
+use Rattle.club_check.specs.internal.RightTables.{IsUntyped}
 use Rattle.club_check.proofs.StoredLemmas.{stands}
 use Rattle.club_check.proofs.ClubLemmas.{stays, names_both}
 use Rattle.club_check.proofs.FirstWrong.{either_later, moves_types_wrong, some_later, wrong_later}

@@ -1,11 +1,11 @@
 use Rattle.std.proofs.Common.{◌≡◌, ◌+◌, length, Some, refl, sym, ap, subst₂, ◌∙◌, arith, true}
-use Rattle.club_check.specs.RightTables.{NamesPlayed}
+use Rattle.club_check.specs.internal.RightTables.{NamesPlayed}
 use Rattle.std.specs.Prelude.{slice_get}
 use Rattle.std.proofs.lemmas.Option.{slice_get_read}
 use Rattle.sqlite.specs.Held.{state}
 use Rattle.sqlite.proofs.StateLemmas.{unchanged}
 use Rattle.store_tables.proofs.Proved.{read_nothing, read_then, clean_before}
-use Rattle.club_check.specs.Examined.{AreLeftAfter, IsGameFound}
+use Rattle.club_check.specs.internal.Examined.{AreLeftAfter, IsGameFound}
 use Rattle.club_check.proofs.ExaminedLemmas.{blamed_before, both_after, left_all, left_more, left_start}
 use Rattle.store_tables.specs.declared.names.Table.TheVariants.{Moves, Seen}
 use Rattle.club_check.proofs.ClubLemmas.{stays, before, still}

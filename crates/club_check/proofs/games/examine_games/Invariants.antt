@@ -4,10 +4,10 @@ use Rattle.sqlite.specs.Held.{state}
 use Rattle.store_tables.specs.Placed.{HasClubTables, club_trees}
 use Rattle.store_tables.specs.Reading.{Reads}
 use Rattle.store_tables.specs.declared.names.Table.{Table}
-use Rattle.club_audit.specs.Audit.{HasPeople}
+use Rattle.club_audit.specs.internal.Audit.{HasPeople}
 use Rattle.club_rows.specs.Club.{ClubState}
-use Rattle.club_check.specs.RightTables.{IsLater}
-use Rattle.club_check.specs.Examined.{AreLeftAfter, IsAfter, moves_in, seen_in}
+use Rattle.club_check.specs.internal.RightTables.{IsLater}
+use Rattle.club_check.specs.internal.Examined.{AreLeftAfter, IsAfter, moves_in, seen_in}
 use Rattle.club_check.proofs.ExaminedLemmas.{IsKept}
 use Rattle.club_check.proofs.games.examine_games.Given as goal
 

@@ -1,7 +1,7 @@
 use Rattle.std.proofs.Common.{◌≡◌, rules}
 use Rattle.sqlite.specs.Held.{state}
 use Rattle.store_tables.specs.declared.names.Table.TheVariants.{Seen}
-use Rattle.club_check.specs.Faults.{told}
+use Rattle.club_check.specs.internal.Faults.{told}
 use Rattle.club_check.proofs.StoredLemmas.{stands}
 use Rattle.club_check.proofs.FoundGames.{seen_untyped, told_typed}
 use Rattle.club_check.proofs.games.read_seen.Goals as goal

@@ -1,6 +1,6 @@
 use Rattle.std.proofs.Common.{rules, ◌≡◌, ◌+◌, ◌++◌, [], ◌∷◌, length, refl, sym, subst, slice_get, take, Some}
 use Rattle.std.proofs.lemmas.Option.{slice_get_read}
-use Rattle.club_check.specs.KnownGames.{AreJudged}
+use Rattle.club_check.specs.internal.KnownGames.{AreJudged}
 use Rattle.club_check.proofs.KnownLemmas.{judged_next}
 use Rattle.club_check.proofs.known.judged_games.Goals as goal
 

@@ -1,5 +1,5 @@
 use Rattle.std.proofs.Common.{◌≡◌, map, take}
-use Rattle.club_check.specs.KnownGames.{game_seat, row_seat}
+use Rattle.club_check.specs.internal.KnownGames.{game_seat, row_seat}
 use Rattle.club_check.proofs.known.known_games.Given as goal
 
 abbrev pub invariant-rows : goal.invariant-rows

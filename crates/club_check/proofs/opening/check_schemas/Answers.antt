@@ -1,15 +1,16 @@
 use Rattle.std.proofs.Common.{inr, subst, sym}
 use Rattle.sqlite.specs.Held.{state}
 use Rattle.store_tables.proofs.Proved.{only_reading, reads_then, clean_before, reads_on}
-use Rattle.club_check.specs.Places.{IsRegisterOf}
-use Rattle.club_check.specs.Versions.{HasClub, IsExactlyClub, IsOpenedAt}
+use Rattle.club_check.specs.internal.Places.{IsRegisterOf}
+use Rattle.club_check.specs.Versions.{HasClub, IsOpenedAt}
+use Rattle.club_check.specs.internal.Versions.{IsExactlyClub}
 use Rattle.club_rows.specs.Club.{ClubState}
 use Rattle.club_rows.specs.FirstSchema.{IsClubOf}
 use Rattle.club_check.proofs.ClubLemmas.{before, stays, have_ids, still, good_taken}
 use Rattle.club_check.proofs.FirstWrong.{has_people, people_read}
 use Rattle.club_check.proofs.StoredLemmas.{alone_of, exactly_of, of_version, one_of, tables_of_club}
 use Rattle.sqlite.specs.Effect.{Database}
-use Rattle.club_check.specs.RightTables.{NamesExamined}
+use Rattle.club_check.specs.internal.RightTables.{NamesExamined}
 use Rattle.store_tables.specs.declared.names.Version.TheVariants.{Current}
 use Rattle.club_check.proofs.ExaminedLemmas.{examined_before}
 use Rattle.club_check.proofs.PlayedLemmas.{club_exactly, examined_club, play_blamed, first_examined, club_read}

@@ -2,7 +2,7 @@ use Rattle.store_tables.proofs.Proved.{clean_before, reads_on}
 use Rattle.std.proofs.Common.{inl, refl}
 use Rattle.sqlite.specs.Held.{state}
 use Rattle.club_check.proofs.ExaminedLemmas.{blamed_before, both_same, moves_number, play_examined, seen_number}
-use Rattle.club_check.specs.RightTables.{NamesPlayed}
+use Rattle.club_check.specs.internal.RightTables.{NamesPlayed}
 use Rattle.store_tables.specs.Cells.{IsMove, IsSeen}
 use Rattle.store_tables.specs.Tables.{moves, seen}
 use Rattle.store_tables.specs.declared.names.Table.TheVariants.{Moves, Seen}

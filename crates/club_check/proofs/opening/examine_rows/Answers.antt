@@ -3,12 +3,12 @@ use Rattle.std.proofs.Common.{None, Some, ap, arith, inl, inr, subst, sym, â—Œâˆ
 use Rattle.std.proofs.lemmas.Int.{ints}
 use Rattle.std.proofs.lemmas.Option.{IfSome_then}
 use Rattle.sqlite.specs.Held.{state}
-use Rattle.club_check.specs.Examined.{IsPlayExamined}
+use Rattle.club_check.specs.internal.Examined.{IsPlayExamined}
 use Rattle.club_check.proofs.ExaminedLemmas.{blamed_before, moment_told, moment_of, play_later, played_after}
 use Rattle.club_check.proofs.ExaminedLemmas.{scores_after, some_after}
 use Rattle.store_tables.specs.declared.names.Table.TheVariants.{Games, Moves}
 use Rattle.club_check.proofs.StoredLemmas.{club_of_version}
-use Rattle.club_check.specs.RightTables.{IsWrongOfPlay, NamesScores}
+use Rattle.club_check.specs.internal.RightTables.{IsWrongOfPlay, NamesScores}
 use Rattle.club_check.proofs.PlayedLemmas.{are_played, are_scored, are_seated, before_last, meta_played, none_played}
 use Rattle.club_check.proofs.ClubLemmas.{before, still}
 use Rattle.club_check.proofs.FirstWrong.{damaged_same}

@@ -1,7 +1,8 @@
 use Rattle.std.proofs.Common.{inl, refl, map, sym, ◌∙◌, subst, inr}
 use Rattle.sqlite.specs.Held.{state}
-use Rattle.store_tables.specs.Cells.{score_cells, IsScore}
-use Rattle.club_audit.specs.Standings.{AreGamesOf}
+use Rattle.store_tables.specs.Cells.{IsScore}
+use Rattle.store_tables.specs.internal.Cells.{score_cells}
+use Rattle.club_audit.specs.internal.Standings.{AreGamesOf}
 use Rattle.club_rows.specs.Club.{both_games}
 use Rattle.club_rows.specs.EachOnce.{AreEachOnce}
 use Rattle.club_rows.specs.Scores.{scores_in}

@@ -1,10 +1,10 @@
 use Rattle.std.proofs.Common.{◌⊎◌, ap, inl, inr, sym, subst, ◌∙◌}
 use Rattle.sqlite.specs.Held.{state}
 use Rattle.store_tables.specs.declared.rows.Rows.{Rows}
-use Rattle.club_audit.specs.Audit.{HasPeople}
-use Rattle.club_check.specs.Examined.{IsPlayExamined, NamesPlay}
+use Rattle.club_audit.specs.internal.Audit.{HasPeople}
+use Rattle.club_check.specs.internal.Examined.{IsPlayExamined, NamesPlay}
 use Rattle.club_check.specs.ReasonIsRight.{NamesTable}
-use Rattle.club_check.specs.RightTables.{NamesPlayed}
+use Rattle.club_check.specs.internal.RightTables.{NamesPlayed}
 use Rattle.club_check.specs.declared.fault.OpenFault.TheVariants.{Damaged}
 use Rattle.club_check.proofs.KnownLemmas.{fault_failed, named_damage, named_failed, named_right}
 use Rattle.club_check.proofs.opening.name_untyped.Goals as goal

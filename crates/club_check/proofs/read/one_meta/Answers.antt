@@ -1,5 +1,5 @@
 use Rattle.std.proofs.Common.{◌≡◌, rules, get_or}
-use Rattle.store_tables.specs.Cells.{IsMeta}
+use Rattle.store_tables.specs.internal.Cells.{IsMeta}
 use Rattle.club_check.proofs.ClubLemmas.{one_is_meta}
 use Rattle.club_check.proofs.read.one_meta.Goals as goal
 

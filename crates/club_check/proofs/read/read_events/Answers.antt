@@ -1,6 +1,6 @@
 use Rattle.std.proofs.Common.{inl, refl, subst, sym, inr}
 use Rattle.sqlite.specs.Held.{state}
-use Rattle.club_audit.specs.Audit.{AreEvents}
+use Rattle.club_audit.specs.internal.Audit.{AreEvents}
 use Rattle.store_tables.specs.Cells.{IsEvent}
 use Rattle.store_tables.specs.Tables.{events}
 use Rattle.store_tables.specs.declared.names.Table.TheVariants.{Events}

@@ -4,7 +4,8 @@ use Rattle.sqlite.specs.Effect.{Database}
 use Rattle.sqlite.specs.Held.{state}
 use Rattle.store_tables.specs.Placed.{HasTablesOf}
 use Rattle.club_check.proofs.StoredLemmas.{first_stand}
-use Rattle.club_check.specs.ReasonIsRight.{IsMetaRead, NamesForeign, NamesSchema}
+use Rattle.club_check.specs.ReasonIsRight.{NamesForeign, NamesSchema}
+use Rattle.club_check.specs.internal.ReasonIsRight.{IsMetaRead}
 use Rattle.club_check.proofs.ClubLemmas.{stays, foreign_named, meta_before, refused_named, still}
 use Rattle.club_check.proofs.ClubLemmas.{still_of, told_blamed}
 use Rattle.club_check.proofs.read.read_head.Goals as goal

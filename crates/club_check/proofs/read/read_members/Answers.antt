@@ -1,6 +1,6 @@
 use Rattle.std.proofs.Common.{inl, refl, subst, sym, inr}
 use Rattle.sqlite.specs.Held.{state}
-use Rattle.club_audit.specs.Audit.{AreMembers}
+use Rattle.club_audit.specs.internal.Audit.{AreMembers}
 use Rattle.store_tables.specs.Cells.{IsMember}
 use Rattle.store_tables.specs.Tables.{members}
 use Rattle.store_tables.specs.declared.names.Table.TheVariants.{Members}

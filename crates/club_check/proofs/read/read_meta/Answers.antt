@@ -1,7 +1,7 @@
 use Rattle.std.proofs.Common.{Ok, Err, Result, inl, rules, refl}
 use Rattle.std.proofs.lemmas.Result.{IfOk-weaker}
 use Rattle.std.proofs.lemmas.Option.{IfSome_then}
-use Rattle.store_tables.specs.Cells.{meta_cells}
+use Rattle.store_tables.specs.internal.Cells.{meta_cells}
 use Rattle.sqlite.specs.Held.{state}
 use Rattle.club_check.proofs.StoredLemmas.{of_version, stands}
 use Rattle.std.specs.Prelude.{OnOk, is_ok}

@@ -1,6 +1,7 @@
 use Rattle.store_tables.proofs.Proved.{clean_before, reads_on}
 use Rattle.std.proofs.Common.{sym, arith, refl}
-use Rattle.club_check.specs.RightTables.{NamesFirstDamaged, NamesWrong}
+use Rattle.club_check.specs.RightTables.{NamesFirstDamaged}
+use Rattle.club_check.specs.internal.RightTables.{NamesWrong}
 use Rattle.store_tables.specs.declared.names.Table.TheVariants.{Events, EventRules, Members}
 use Rattle.club_check.proofs.FirstWrong.{has_events, events_right, members_right, tells_events, after_people}
 use Rattle.club_check.proofs.ClubLemmas.{before, meta_before, read_after, read_before}

@@ -1,15 +1,17 @@
 use Rattle.std.proofs.Common.{inl, map, refl, arith}
-use Rattle.club_audit.specs.Audit.{HasPeople}
+use Rattle.club_audit.specs.internal.Audit.{HasPeople}
 use Rattle.sqlite.specs.Held.{state}
 use Rattle.store_tables.specs.Placed.{club_trees}
 use Rattle.store_tables.proofs.Proved.{ids_of, clean_before, reads_on}
-use Rattle.store_tables.specs.Cells.{IsChallenge, event_cells, member_cells}
-use Rattle.store_tables.specs.Rows.{HaveIds}
+use Rattle.store_tables.specs.Cells.{IsChallenge, event_cells}
+use Rattle.store_tables.specs.internal.Cells.{member_cells}
+use Rattle.store_tables.specs.internal.Rows.{HaveIds}
 use Rattle.store_tables.specs.Tables.{challenges, events, games, members}
 use Rattle.store_tables.specs.declared.names.Table.TheVariants.{Challenges, EventRules}
 use Rattle.store_tables.specs.declared.rows.Rows.{Rows}
-use Rattle.club_check.specs.KnownGames.{NamesUntyped}
-use Rattle.club_check.specs.RightTables.{NamesFirstDamaged, NamesWrong}
+use Rattle.club_check.specs.internal.KnownGames.{NamesUntyped}
+use Rattle.club_check.specs.RightTables.{NamesFirstDamaged}
+use Rattle.club_check.specs.internal.RightTables.{NamesWrong}
 use Rattle.club_check.proofs.KnownLemmas.{judged_ids, judged_in, first_untyped, known_before, untyped_blamed}
 use Rattle.club_check.proofs.KnownLemmas.{judged_known, judged_moves}
 use Rattle.club_check.proofs.StoredLemmas.{stands}

@@ -2,12 +2,12 @@ use Rattle.std.proofs.Common.{inl, inr, subst, sym, arith, refl}
 use Rattle.std.proofs.lemmas.Result.{IfErr-weaker, IfOk-weaker}
 use Rattle.std.specs.Prelude.{length}
 use Rattle.sqlite.specs.Held.{state}
-use Rattle.club_audit.specs.Audit.{AreRules}
+use Rattle.club_audit.specs.internal.Audit.{AreRules}
 use Rattle.club_check.proofs.ClubLemmas.{undeclared_are, names}
 use Rattle.club_check.proofs.FirstWrong.{rule_types_wrong, club_has, club_rows, named_wrong}
 use Rattle.club_check.proofs.FirstWrong.{rules_at, rules_none}
 use Rattle.store_tables.specs.declared.names.Table.TheVariants.{EventRules, Events}
-use Rattle.club_check.specs.ReasonIsRight.{AreRulesRead}
+use Rattle.club_check.specs.internal.ReasonIsRight.{AreRulesRead}
 use Rattle.store_tables.specs.Cells.{IsEventRule}
 use Rattle.store_tables.specs.Tables.{event_rules}
 use Rattle.club_check.proofs.StoredLemmas.{rules_stand}

@@ -1,6 +1,6 @@
 use Rattle.std.proofs.Common.{◌≡◌, map, take}
-use Rattle.store_tables.specs.Cells.{event_rule_cells}
-use Rattle.club_check.specs.ReasonIsRight.{undeclared_row}
+use Rattle.store_tables.specs.internal.Cells.{event_rule_cells}
+use Rattle.club_check.specs.internal.ReasonIsRight.{undeclared_row}
 use Rattle.club_check.proofs.read.undeclared.Given as goal
 
 abbrev pub invariant-events : goal.invariant-events

@@ -2,7 +2,7 @@ use Rattle.std.proofs.Common.{suc, ap, sym, ◌∙◌, rules, tests}
 use Rattle.std.specs.Option.{option_map}
 use Rattle.std.proofs.lemmas.Iterator.{YieldsList-from_slice}
 use Rattle.std.proofs.lemmas.Iterator.Search.{position_from_yields_List}
-use Rattle.club_core.specs.Answer.{member_of}
+use Rattle.club_core.specs.internal.Answer.{member_of}
 use Rattle.club_core.specs.State.{has_member_key}
 use Rattle.club_core.proofs.Finds.{find_id-map}
 use Rattle.club_core.proofs.members.find_key.Goals as goal

@@ -6,7 +6,8 @@ use Rattle.club_core.specs.declared.rows.GameEnd.TheVariants.{Rule}
 use Rattle.club_core.specs.Game.{moves_of, clocks_of, left_of, last_position, turn_of, end_of, rule_end, result_of}
 use Rattle.club_core.specs.Game.{score_with, spend}
 use Rattle.club_core.specs.Step.{played}
-use Rattle.club_core.specs.View.{IsSound, IsMade, CanPlay, clocks_in, terms_of, track_of_game}
+use Rattle.club_core.specs.View.{IsSound, clocks_in, terms_of, track_of_game}
+use Rattle.club_core.specs.internal.View.{IsMade, CanPlay}
 use Rattle.club_core.proofs.Legals.{no-rule-end}
 use Rattle.club_core.proofs.Played.{last-played, rule_end-played, end-played, made-played, clocks-played, reply-played}
 use Rattle.club_core.proofs.Played.{moved-same, score-none}

@@ -1,7 +1,8 @@
 use Rattle.std.proofs.Common.{rules, ◌≡◌, Some, sym, ap, ◌∙◌, refl, string_bytes}
 use Rattle.club_core.specs.Game.{rule_end, game_at}
 use Rattle.club_core.specs.Step.{move_at, repeat_of, reply_of_move}
-use Rattle.club_core.specs.View.{terms_of, IsAsked, rule_in}
+use Rattle.club_core.specs.View.{terms_of, IsAsked}
+use Rattle.club_core.specs.internal.View.{rule_in}
 use Rattle.club_core.proofs.Played.{repeat-shown, reply-asked, asked-ply, moved-same, end-last, end-before}
 use Rattle.club_core.proofs.moves.repeat_of.Goals as goal
 use Rattle.club_core.proofs.moves.repeat_of.Goals.{then-asked-view, else-asked-view}

@@ -1,9 +1,9 @@
 use Rattle.std.proofs.Common.{ap, ◌∙◌}
-use Rattle.club_rules.specs.Records.{reading_of}
+use Rattle.club_rules.specs.internal.Records.{reading_of}
 use Rattle.club_core.specs.Answer.{import_of}
 use Rattle.club_core.specs.Imports.{read_in, import_between}
 use Rattle.club_requests.specs.Outcome.{game_seated}
-use Rattle.club_imports.specs.Importing.{importing_of}
+use Rattle.club_imports.specs.internal.Importing.{importing_of}
 use Rattle.club_imports.proofs.ImportStepLemmas.{step-repeats, step-refuses, step-adds}
 use Rattle.club_imports.proofs.imports.import_found.Goals as goal
 

@@ -1,6 +1,6 @@
 use Rattle.std.proofs.Common.{Ok, Err}
 use Rattle.std.specs.Prelude.{IfOk}
-use Rattle.club_rules.specs.Records.{reading_of}
+use Rattle.club_rules.specs.internal.Records.{reading_of}
 use Rattle.club_imports.proofs.ImportStepLemmas.{read-by-rules}
 use Rattle.club_imports.proofs.imports.read_import.Goals as goal
 

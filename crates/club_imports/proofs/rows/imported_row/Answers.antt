@@ -1,12 +1,12 @@
 use Rattle.std.proofs.Common.{◌≤◌, ◌∙◌, Some, length, refl, sym, ap, subst, arith}
 use Rattle.club_rules.specs.Line.{position_after, line_track}
-use Rattle.club_rules.specs.Records.{recorded_of}
+use Rattle.club_rules.specs.internal.Records.{recorded_of}
 use Rattle.club_core.specs.Game.{spend_all}
 use Rattle.club_requests.specs.Limits.{most_plies}
 use Rattle.club_core.proofs.Proved.{are_rules}
 use Rattle.club_laws.proofs.Proved.{within-limit}
 use Rattle.squares.specs.declared.sides.Side.TheVariants.{First}
-use Rattle.club_imports.specs.OneMoment.{at_moment, clocks_with}
+use Rattle.club_imports.specs.internal.OneMoment.{at_moment, clocks_with}
 use Rattle.club_imports.proofs.RowLemmas.{row-plies, row-clocks, row-track, row-position, row-end, row-result}
 use Rattle.club_imports.proofs.rows.imported_row.Goals as goal
 

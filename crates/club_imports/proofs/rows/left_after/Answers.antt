@@ -3,7 +3,7 @@ use Rattle.std.proofs.lemmas.Bool.Decides.{nat_tests}
 use Rattle.squares.specs.declared.sides.Side.TheVariants.{First}
 use Rattle.squares.specs.Sides.{other}
 use Rattle.club_core.specs.Game.{spend}
-use Rattle.club_imports.specs.OneMoment.{clocks_with}
+use Rattle.club_imports.specs.internal.OneMoment.{clocks_with}
 use Rattle.club_imports.proofs.LeftLemmas.{spend-more, turns-more, spend-first, spend-second}
 use Rattle.club_imports.proofs.rows.left_after.Goals as goal
 

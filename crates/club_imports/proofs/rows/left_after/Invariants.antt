@@ -1,7 +1,7 @@
 use Rattle.std.proofs.Common.{◌≡◌, ℕ, ◌+◌, ◌*◌, ◌≤◌}
 use Rattle.squares.specs.declared.sides.Side.TheVariants.{First}
 use Rattle.club_core.specs.Game.{turns, spend_all}
-use Rattle.club_imports.specs.OneMoment.{at_moment, clocks_with}
+use Rattle.club_imports.specs.internal.OneMoment.{at_moment, clocks_with}
 use Rattle.club_imports.proofs.rows.left_after.Given as goal
 
 abbrev pub invariant-loop-ply : goal.invariant-loop-ply

@@ -1,10 +1,10 @@
 use Rattle.std.proofs.Common.{ap, drop}
 use Rattle.serde_json.specs.View.{view}
 use Rattle.std.proofs.lemmas.List.{drop_all}
-use Rattle.club_core.specs.Answer.{events_of, members_of}
+use Rattle.club_core.specs.internal.Answer.{events_of, members_of}
 use Rattle.club_lists.specs.Ended.{ended_data, is_own_ended, most_ended}
 use Rattle.club_lists.specs.Newest.{beyond}
-use Rattle.club_lists.specs.SummaryViews.{summaries_of}
+use Rattle.club_lists.specs.internal.SummaryViews.{summaries_of}
 use Rattle.club_lists.proofs.LastPicked.{all_newest}
 use Rattle.club_lists.proofs.ended.newest_ended.Goals as goal
 

@@ -1,9 +1,9 @@
 use Rattle.std.proofs.Common.{◌≡◌, ◌++◌, drop, map}
 use Rattle.serde_json.specs.View.{view}
-use Rattle.club_core.specs.Answer.{events_of, members_of}
+use Rattle.club_core.specs.internal.Answer.{events_of, members_of}
 use Rattle.club_lists.specs.Ended.{ended_data, is_own_ended, most_ended}
 use Rattle.club_lists.specs.Newest.{beyond}
-use Rattle.club_lists.specs.SummaryViews.{summaries_of}
+use Rattle.club_lists.specs.internal.SummaryViews.{summaries_of}
 use Rattle.club_lists.proofs.LastPicked.{last_of}
 use Rattle.club_lists.proofs.ended.newest_ended.Given as goal
 

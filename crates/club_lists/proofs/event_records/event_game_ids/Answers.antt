@@ -1,8 +1,8 @@
 use Rattle.std.proofs.Common.{refl, sym, ◌∙◌}
-use Rattle.club_core.specs.Answer.{events_of}
+use Rattle.club_core.specs.internal.Answer.{events_of}
 use Rattle.club_lists.specs.Shows.{is_of_event}
 use Rattle.club_lists.specs.GameSummary.{GameSummary}
-use Rattle.club_lists.specs.SummaryViews.{summary_of}
+use Rattle.club_lists.specs.internal.SummaryViews.{summary_of}
 use Rattle.club_lists.proofs.Picked.{one_kept, one_passed}
 use Rattle.club_lists.proofs.event_records.event_game_ids.Goals as goal
 

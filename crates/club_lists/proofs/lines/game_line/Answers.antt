@@ -1,7 +1,7 @@
 use Rattle.std.proofs.Common.{subst, sym}
-use Rattle.club_core.specs.Answer.{members_of, events_of}
+use Rattle.club_core.specs.internal.Answer.{members_of, events_of}
 use Rattle.club_lists.specs.Lines.{IsGameState}
-use Rattle.club_lists.specs.SummaryViews.{summary_of}
+use Rattle.club_lists.specs.internal.SummaryViews.{summary_of}
 use Rattle.club_lists.proofs.GameLines.{line_is}
 use Rattle.club_lists.proofs.lines.game_line.Goals as goal
 

@@ -1,7 +1,7 @@
 use Rattle.std.proofs.Common.{◌≡◌, ◌+◌, suc, ◌∷◌, drop, sym, ◌∙◌, rules, arith}
 use Rattle.std.proofs.Math.Seq.{drop-cons}
 use Rattle.std.specs.Prelude.{string_bytes}
-use Rattle.club_core.specs.Answer.{members_of, events_of}
+use Rattle.club_core.specs.internal.Answer.{members_of, events_of}
 use Rattle.club_lists.proofs.GameLines.{ahead_more, ahead_all}
 use Rattle.club_lists.proofs.lines.games_text.Goals as goal
 

@@ -1,6 +1,6 @@
 use Rattle.std.proofs.Common.{◌-◌, sym, length, ap}
 use Rattle.std.proofs.lemmas.Bool.{ltb-true, ltb-false}
-use Rattle.club_core.specs.Answer.{event_of}
+use Rattle.club_core.specs.internal.Answer.{event_of}
 use Rattle.club_core.specs.State.{kind_at}
 use Rattle.club_lists.proofs.Lists.{told_at, told_none}
 use Rattle.club_lists.proofs.lines.kind_of.Goals as goal

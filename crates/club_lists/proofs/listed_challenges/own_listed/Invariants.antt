@@ -1,6 +1,6 @@
 use Rattle.std.proofs.Common.{◌≡◌, ◌++◌, drop}
 use Rattle.std.specs.Prelude.{filter}
-use Rattle.club_core.specs.Answer.{members_of}
+use Rattle.club_core.specs.internal.Answer.{members_of}
 use Rattle.club_lists.specs.Newest.{beyond}
 use Rattle.club_lists.specs.Shows.{is_own_challenge, most_own}
 use Rattle.club_lists.proofs.listed_challenges.own_listed.Given as goal

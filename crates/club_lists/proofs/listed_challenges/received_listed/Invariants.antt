@@ -1,5 +1,5 @@
 use Rattle.std.proofs.Common.{◌≡◌, [], drop}
-use Rattle.club_core.specs.Answer.{members_of}
+use Rattle.club_core.specs.internal.Answer.{members_of}
 use Rattle.club_lists.specs.Shows.{received_after}
 use Rattle.club_lists.proofs.listed_challenges.received_listed.Given as goal
 

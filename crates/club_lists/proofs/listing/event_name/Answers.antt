@@ -1,6 +1,6 @@
 use Rattle.std.proofs.Common.{◌-◌, sym, length, ap, ◌∙◌}
 use Rattle.std.proofs.lemmas.Bool.{ltb-true, ltb-false}
-use Rattle.club_core.specs.Answer.{event_of}
+use Rattle.club_core.specs.internal.Answer.{event_of}
 use Rattle.club_lists.specs.Listing.{event_name}
 use Rattle.club_lists.proofs.Lists.{told_at, told_none}
 use Rattle.club_lists.proofs.listing.event_name.Goals as goal

@@ -1,7 +1,7 @@
 use Rattle.std.proofs.Common.{sym, ◌∙◌, rules, tests}
 use Rattle.std.proofs.lemmas.Iterator.{YieldsList-from_slice}
 use Rattle.std.proofs.lemmas.Iterator.Search.{any_from_yields_List}
-use Rattle.club_core.specs.Answer.{member_of}
+use Rattle.club_core.specs.internal.Answer.{member_of}
 use Rattle.club_core.specs.Seats.{has_member_name}
 use Rattle.club_lists.proofs.Lists.{any_told}
 use Rattle.club_lists.proofs.listing.is_member.Goals as goal

@@ -1,6 +1,6 @@
 use Rattle.std.proofs.Common.{◌-◌, sym, length, ap, ◌∙◌}
 use Rattle.std.proofs.lemmas.Bool.{ltb-true, ltb-false}
-use Rattle.club_core.specs.Answer.{member_of}
+use Rattle.club_core.specs.internal.Answer.{member_of}
 use Rattle.club_lists.specs.Listing.{member_name}
 use Rattle.club_lists.proofs.Lists.{told_at, told_none}
 use Rattle.club_lists.proofs.listing.member_name.Goals as goal

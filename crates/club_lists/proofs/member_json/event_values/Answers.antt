@@ -1,5 +1,5 @@
 use Rattle.serde_json.specs.View.{view}
-use Rattle.club_core.specs.Answer.{event_of}
+use Rattle.club_core.specs.internal.Answer.{event_of}
 use Rattle.club_lists.specs.Shows.{event_data}
 use Rattle.club_lists.proofs.Picked.{one_told}
 use Rattle.club_lists.proofs.member_json.event_values.Goals as goal

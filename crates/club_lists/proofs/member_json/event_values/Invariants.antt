@@ -1,6 +1,6 @@
 use Rattle.std.proofs.Common.{◌≡◌, ◌++◌, drop, map}
 use Rattle.serde_json.specs.View.{view}
-use Rattle.club_core.specs.Answer.{events_of}
+use Rattle.club_core.specs.internal.Answer.{events_of}
 use Rattle.club_lists.specs.Shows.{event_data}
 use Rattle.club_lists.proofs.member_json.event_values.Given as goal
 

@@ -1,8 +1,8 @@
 use Rattle.std.proofs.Common.{sym, ◌∙◌}
 use Rattle.serde_json.specs.View.{view}
-use Rattle.club_core.specs.Answer.{events_of, members_of}
+use Rattle.club_core.specs.internal.Answer.{events_of, members_of}
 use Rattle.club_lists.specs.Shows.{event_game_data, is_of_event}
-use Rattle.club_lists.specs.SummaryViews.{summary_of}
+use Rattle.club_lists.specs.internal.SummaryViews.{summary_of}
 use Rattle.club_lists.proofs.Picked.{one_left, one_picked}
 use Rattle.club_lists.proofs.member_json.games_of_event.Goals as goal
 

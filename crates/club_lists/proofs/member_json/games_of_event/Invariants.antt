@@ -1,8 +1,8 @@
 use Rattle.std.proofs.Common.{◌≡◌, ◌++◌, drop, map}
 use Rattle.serde_json.specs.View.{view}
-use Rattle.club_core.specs.Answer.{events_of, members_of}
+use Rattle.club_core.specs.internal.Answer.{events_of, members_of}
 use Rattle.club_lists.specs.Shows.{games_of_event}
-use Rattle.club_lists.specs.SummaryViews.{summaries_of}
+use Rattle.club_lists.specs.internal.SummaryViews.{summaries_of}
 use Rattle.club_lists.proofs.member_json.games_of_event.Given as goal
 
 abbrev pub invariant-loop-game : goal.invariant-loop-game

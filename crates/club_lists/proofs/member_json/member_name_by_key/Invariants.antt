@@ -1,5 +1,5 @@
 use Rattle.std.proofs.Common.{◌≡◌, drop}
-use Rattle.club_core.specs.Answer.{members_of}
+use Rattle.club_core.specs.internal.Answer.{members_of}
 use Rattle.club_lists.specs.Shows.{member_name_by_key}
 use Rattle.club_lists.proofs.member_json.member_name_by_key.Given as goal
 

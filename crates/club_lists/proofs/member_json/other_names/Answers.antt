@@ -1,7 +1,7 @@
 use Rattle.std.proofs.Common.{ap, sym, ◌∙◌}
 use Rattle.serde_json.specs.Data.{string}
 use Rattle.serde_json.specs.View.{view}
-use Rattle.club_core.specs.Answer.{member_of}
+use Rattle.club_core.specs.internal.Answer.{member_of}
 use Rattle.club_lists.specs.Shows.{is_other}
 use Rattle.club_lists.proofs.Picked.{one_left, one_picked}
 use Rattle.club_lists.proofs.member_json.other_names.Goals as goal

@@ -1,8 +1,9 @@
 use Rattle.std.proofs.Common.{◌≡◌, true, [], ◌∷◌, ◌++◌, ap, sym, subst, ◌∙◌}
 use Rattle.sqlite.specs.Held.{state}
 use Rattle.schema_match.specs.Shapes.{is_of_club}
-use Rattle.club_orders.specs.Refused.{IsUpgradeRefusal}
-use Rattle.club_orders.specs.Report.{IfUnopened, IfUpgradeOf, IsUpgradeResult, IsRepeated, upgrade_report}
+use Rattle.club_orders.specs.internal.Refused.{IsUpgradeRefusal}
+use Rattle.club_orders.specs.Report.{IfUnopened, IfUpgradeOf, IsRepeated}
+use Rattle.club_orders.specs.internal.Report.{IsUpgradeResult, upgrade_report}
 use Rattle.club_orders.specs.Report.{schemas_after_upgrade, upgrade_of}
 use Rattle.club_orders.proofs.RefusalLemmas.{upgrade_found, upgrade_left, upgrade_stopped, upgrade_taken}
 use Rattle.store.specs.Histories.{IsReachableIn}

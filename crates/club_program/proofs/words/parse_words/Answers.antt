@@ -1,7 +1,7 @@
 use Rattle.std.proofs.Common.{◌≡◌, ◌∙◌, ap, map, length, min, option_map, rules}
 use Rattle.std.specs.Prelude.{string_bytes}
 use Rattle.club_program.proofs.WordLemmas.{are_plain}
-use Rattle.club_program.specs.CommandLine.{plain_words}
+use Rattle.club_program.specs.internal.CommandLine.{plain_words}
 use Rattle.club_program.proofs.words.parse_words.Goals as goal
 
 pub returns-clause-ok : goal.returns-clause-ok

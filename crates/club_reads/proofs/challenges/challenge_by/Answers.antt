@@ -1,6 +1,6 @@
 use Rattle.std.proofs.Common.{map, ap, sym, ◌∙◌, arith}
 use Rattle.club_core.specs.Challenges.{challenge_by}
-use Rattle.store_tables.specs.Cells.{challenge_cells}
+use Rattle.store_tables.specs.internal.Cells.{challenge_cells}
 use Rattle.club_rows.specs.Club.{tables}
 use Rattle.club_changes.proofs.Proved.{asked, found_some, found_none, past_numbers, first_mapped, none_mapped}
 use Rattle.club_reads.proofs.challenges.challenge_by.Goals as goal

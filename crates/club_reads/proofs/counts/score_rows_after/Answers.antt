@@ -3,7 +3,7 @@ use Rattle.std.specs.Option.{option_map}
 use Rattle.sqlite.specs.Held.{state}
 use Rattle.sqlite.specs.State.{HasCleanDisk}
 use Rattle.store_tables.proofs.Proved.{read_then, still_rows}
-use Rattle.club_rows.specs.NextScores.{AreNext}
+use Rattle.club_rows.specs.internal.NextScores.{AreNext}
 use Rattle.club_reads.proofs.counts.score_rows_after.Goals as goal
 
 pub returns-in-Some-clause-puts : goal.returns-in-Some-clause-puts

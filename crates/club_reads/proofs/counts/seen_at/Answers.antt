@@ -4,8 +4,8 @@ use Rattle.std.specs.Option.{option_map}
 use Rattle.std.specs.Prelude.{slice_get}
 use Rattle.sqlite.specs.declared.types.Value.TheVariants.{Int, Text}
 use Rattle.store_tables.specs.Cells.{seen_cells}
-use Rattle.store_tables.specs.Contents.{AreThose}
-use Rattle.club_rows.specs.Seen.{IsFound, IsSeenRow}
+use Rattle.store_tables.specs.internal.Contents.{AreThose}
+use Rattle.club_rows.specs.internal.Seen.{IsFound, IsSeenRow}
 use Rattle.club_rows.specs.Tables.{with_entry}
 use Rattle.club_reads.proofs.counts.seen_at.Goals as goal
 

@@ -1,8 +1,8 @@
 use Rattle.std.proofs.Common.{◌≡◌, ◌+◌, Some, ap, sym, subst, ◌∙◌}
 use Rattle.club_core.specs.declared.decided.Decision.TheVariants as decision
 use Rattle.club_core.specs.Step.{game_step}
-use Rattle.club_core.specs.View.{HasMade}
-use Rattle.club_changes.specs.Steps.{IsSeenAfter}
+use Rattle.club_core.specs.internal.View.{HasMade}
+use Rattle.club_changes.specs.internal.Steps.{IsSeenAfter}
 use Rattle.club_changes.proofs.Proved.{step_done, seen_by_step}
 use Rattle.club_reads.proofs.counts.seen_row_of_decision.Goals as goal
 

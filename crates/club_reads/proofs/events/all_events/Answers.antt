@@ -1,7 +1,8 @@
 use Rattle.std.proofs.Common.{true, map, refl, ap, ◌∙◌, arith}
 use Rattle.sqlite.specs.Held.{state}
 use Rattle.sqlite.specs.State.{HasCleanDisk}
-use Rattle.store_tables.specs.Cells.{event_cells, event_rule_cells}
+use Rattle.store_tables.specs.Cells.{event_cells}
+use Rattle.store_tables.specs.internal.Cells.{event_rule_cells}
 use Rattle.store_tables.proofs.Proved.{read_then, still_rows}
 use Rattle.club_rows.specs.Club.{tables}
 use Rattle.club_reads.proofs.BeginLemmas.{events_begin, rules_begin}

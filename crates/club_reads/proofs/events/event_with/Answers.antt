@@ -3,8 +3,9 @@ use Rattle.std.proofs.lemmas.Int.{ints}
 use Rattle.sqlite.specs.Held.{state}
 use Rattle.sqlite.specs.State.{HasCleanDisk}
 use Rattle.sqlite.specs.declared.types.Value.TheVariants.{Int}
-use Rattle.store_tables.specs.Contents.{AreThose}
-use Rattle.store_tables.specs.Cells.{event_cells, event_rule_cells}
+use Rattle.store_tables.specs.internal.Contents.{AreThose}
+use Rattle.store_tables.specs.Cells.{event_cells}
+use Rattle.store_tables.specs.internal.Cells.{event_rule_cells}
 use Rattle.store_tables.proofs.Proved.{read_then, still_rows}
 use Rattle.club_rows.specs.Club.{tables}
 use Rattle.club_changes.proofs.Proved.{event_found, first_mapped, rule_found}

@@ -1,8 +1,9 @@
 use Rattle.std.proofs.Common.{◌≡◌, ◌+◌, ◌<◌, ℕ, zero, suc, pos, List, [], ◌∷◌, get_or, length, ap, refl, ◌∙◌, arith}
 use Rattle.std.proofs.Common.{length-append}
 use Rattle.store_tables.specs.declared.rows.EventRuleRow.{EventRuleRow}
-use Rattle.store_tables.specs.Cells.{event_cells, event_rule_cells}
-use Rattle.club_core.specs.Answer.{event_of}
+use Rattle.store_tables.specs.Cells.{event_cells}
+use Rattle.store_tables.specs.internal.Cells.{event_rule_cells}
+use Rattle.club_core.specs.internal.Answer.{event_of}
 use Rattle.club_rows.specs.Tables.{event_row, rule_row}
 use Rattle.club_changes.proofs.Proved.{one_more_of, all_read, row_at_place}
 use Rattle.club_reads.proofs.events.events_of.Goals as goal

@@ -1,8 +1,9 @@
 use Rattle.std.proofs.Common.{◌≡◌, List, length, map, take}
-use Rattle.club_core.specs.Answer.{events_of}
+use Rattle.club_core.specs.internal.Answer.{events_of}
 use Rattle.club_core.specs.Events.{Event}
 use Rattle.club_rows.specs.Tables.{numbered_from, event_row, rule_row}
-use Rattle.store_tables.specs.Cells.{event_cells, event_rule_cells}
+use Rattle.store_tables.specs.Cells.{event_cells}
+use Rattle.store_tables.specs.internal.Cells.{event_rule_cells}
 use Rattle.club_reads.proofs.events.events_of.Given as goal
 
 abbrev pub invariant-loop-i : goal.invariant-loop-i

@@ -1,6 +1,6 @@
 use Rattle.std.proofs.Common.{refl, arith}
 use Rattle.club_rows.specs.Club.{tables}
-use Rattle.club_changes.specs.Steps.{game_in}
+use Rattle.club_changes.specs.internal.Steps.{game_in}
 use Rattle.club_changes.proofs.Proved.{numbered_length}
 use Rattle.club_reads.proofs.BeginLemmas.{games_begin}
 use Rattle.club_reads.proofs.games.count_games.Goals as goal

@@ -1,5 +1,5 @@
 use Rattle.std.proofs.Common.{◌≡◌, Some, ap, sym, ◌∙◌}
-use Rattle.club_core.specs.Answer.{event_of}
+use Rattle.club_core.specs.internal.Answer.{event_of}
 use Rattle.club_core.specs.State.{place, kind_at, terms_at, pairing_of}
 use Rattle.club_changes.proofs.Proved.{ids_read, event_stands}
 use Rattle.club_reads.proofs.games.read_game.Goals as goal

@@ -1,5 +1,5 @@
 use Rattle.std.proofs.Common.{sym, subst, ◌∙◌}
-use Rattle.club_changes.specs.Importing.{IsUnder}
+use Rattle.club_changes.specs.internal.Importing.{IsUnder}
 use Rattle.club_reads.proofs.known.keyed.Goals as goal
 
 pub returns-in_ok-ids_in-in-Some : goal.returns-in_ok-ids_in-in-Some

@@ -1,6 +1,6 @@
 use Rattle.std.proofs.Common.{[], refl, sym, ◌∙◌}
 use Rattle.club_rows.specs.Tables.{meta_row}
-use Rattle.store_tables.specs.Cells.{meta_cells}
+use Rattle.store_tables.specs.internal.Cells.{meta_cells}
 use Rattle.club_rows.specs.Club.{tables}
 use Rattle.club_changes.proofs.Proved.{first_is}
 use Rattle.club_reads.proofs.BeginLemmas.{meta_begins}

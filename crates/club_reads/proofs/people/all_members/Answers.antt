@@ -1,5 +1,5 @@
 use Rattle.std.proofs.Common.{map, refl, ap, ◌∙◌}
-use Rattle.store_tables.specs.Cells.{member_cells}
+use Rattle.store_tables.specs.internal.Cells.{member_cells}
 use Rattle.club_rows.specs.Club.{tables}
 use Rattle.club_reads.proofs.BeginLemmas.{members_begin}
 use Rattle.club_reads.proofs.people.all_members.Goals as goal

@@ -1,6 +1,6 @@
 use Rattle.std.proofs.Common.{map, sym, ◌∙◌}
 use Rattle.std.specs.Prelude.{string_bytes}
-use Rattle.store_tables.specs.Cells.{member_cells}
+use Rattle.store_tables.specs.internal.Cells.{member_cells}
 use Rattle.club_rows.specs.Club.{tables}
 use Rattle.club_changes.proofs.Proved.{name_same, first_mapped, none_mapped}
 use Rattle.club_reads.proofs.KeyLemmas.{holder_some, holder_none}

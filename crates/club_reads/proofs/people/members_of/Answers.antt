@@ -1,7 +1,7 @@
 use Rattle.std.proofs.Common.{◌≡◌, ◌+◌, length, ap, ◌∙◌, arith, length-append}
-use Rattle.store_tables.specs.Cells.{member_cells}
+use Rattle.store_tables.specs.internal.Cells.{member_cells}
 use Rattle.club_core.specs.declared.members.Member as given
-use Rattle.club_core.specs.Answer.{member_of}
+use Rattle.club_core.specs.internal.Answer.{member_of}
 use Rattle.club_rows.specs.Tables.{member_row}
 use Rattle.club_changes.proofs.Proved.{one_more_read, all_read, member_read}
 use Rattle.club_reads.proofs.people.members_of.Goals as goal

@@ -1,8 +1,8 @@
 use Rattle.std.proofs.Common.{◌≡◌, List, length, map, take}
-use Rattle.club_core.specs.Answer.{members_of}
+use Rattle.club_core.specs.internal.Answer.{members_of}
 use Rattle.club_core.specs.Members.{Member}
 use Rattle.club_rows.specs.Tables.{numbered_from, member_row}
-use Rattle.store_tables.specs.Cells.{member_cells}
+use Rattle.store_tables.specs.internal.Cells.{member_cells}
 use Rattle.club_reads.proofs.people.members_of.Given as goal
 
 abbrev pub invariant-loop-row : goal.invariant-loop-row

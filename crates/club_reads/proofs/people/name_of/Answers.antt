@@ -1,8 +1,8 @@
 use Rattle.std.proofs.Common.{[], ◌∷◌, map, SFits, w64, to_z-of_z, sym, subst, ◌∙◌, arith}
 use Rattle.std.proofs.lemmas.Int.{ints}
 use Rattle.sqlite.specs.declared.types.Value.TheVariants.{Int}
-use Rattle.store_tables.specs.Cells.{member_cells}
-use Rattle.store_tables.specs.Contents.{AreThose}
+use Rattle.store_tables.specs.internal.Cells.{member_cells}
+use Rattle.store_tables.specs.internal.Contents.{AreThose}
 use Rattle.club_rows.specs.Club.{tables}
 use Rattle.club_changes.proofs.Proved.{member_found, name_same, first_mapped}
 use Rattle.club_reads.proofs.people.name_of.Goals as goal

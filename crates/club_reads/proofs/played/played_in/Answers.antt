@@ -3,10 +3,10 @@ use Rattle.std.specs.Prelude.{IfSome}
 use Rattle.std.proofs.lemmas.Int.{ints}
 use Rattle.sqlite.specs.declared.types.Value.TheVariants.{Int}
 use Rattle.store_tables.specs.Cells.{move_cells}
-use Rattle.store_tables.specs.Contents.{AreThose}
+use Rattle.store_tables.specs.internal.Contents.{AreThose}
 use Rattle.club_core.specs.Game.{Game}
-use Rattle.club_imports.specs.Importing.{IsPlayedOf}
-use Rattle.club_rows.specs.Replay.{terms_given}
+use Rattle.club_imports.specs.internal.Importing.{IsPlayedOf}
+use Rattle.club_rows.specs.internal.Replay.{terms_given}
 use Rattle.club_rows.specs.Tables.{move_rows}
 use Rattle.club_changes.specs.Steps.{HaveSame, IsRecordOf}
 use Rattle.club_reads.proofs.played.played_in.Goals as goal

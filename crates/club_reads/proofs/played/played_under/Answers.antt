@@ -1,7 +1,7 @@
 use Rattle.std.proofs.Common.{◌≡◌, Option, Some, None, subst, rules}
 use Rattle.club_core.specs.Game.{Game}
-use Rattle.club_imports.specs.Importing.{ShowsPlayed}
-use Rattle.club_changes.specs.Importing.{IsOfKind}
+use Rattle.club_imports.specs.internal.Importing.{ShowsPlayed}
+use Rattle.club_changes.specs.internal.Importing.{IsOfKind}
 use Rattle.club_reads.proofs.played.played_under.Goals as goal
 
 pub returns-clause-played : goal.returns-clause-played

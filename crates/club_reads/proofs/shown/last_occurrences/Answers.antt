@@ -1,10 +1,10 @@
 use Rattle.std.proofs.Common.{[], ◌∷◌, map, sym, subst, subst₂, ◌∙◌}
 use Rattle.sqlite.specs.declared.types.Value.TheVariants.{Int, Text}
 use Rattle.store_tables.specs.Cells.{seen_cells}
-use Rattle.store_tables.specs.Contents.{AreThose}
+use Rattle.store_tables.specs.internal.Contents.{AreThose}
 use Rattle.club_core.specs.Game.{last_position}
-use Rattle.club_rows.specs.Replay.{terms_given}
-use Rattle.club_rows.specs.Seen.{IsFound}
+use Rattle.club_rows.specs.internal.Replay.{terms_given}
+use Rattle.club_rows.specs.internal.Seen.{IsFound}
 use Rattle.club_rows.proofs.Proved.{position-text}
 use Rattle.club_reads.proofs.shown.last_occurrences.Goals as goal
 

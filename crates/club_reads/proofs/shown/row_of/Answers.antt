@@ -2,7 +2,7 @@ use Rattle.std.proofs.Common.{[], ◌∷◌, Option, map, ap, subst₂, ◌∙�
 use Rattle.std.specs.Option.{option_map}
 use Rattle.sqlite.specs.declared.types.Value.TheVariants.{Int}
 use Rattle.store_tables.specs.Cells.{move_cells}
-use Rattle.store_tables.specs.Contents.{AreThose}
+use Rattle.store_tables.specs.internal.Contents.{AreThose}
 use Rattle.store_tables.specs.declared.rows.MoveRow.{MoveRow}
 use Rattle.club_reads.proofs.shown.row_of.Goals as goal
 

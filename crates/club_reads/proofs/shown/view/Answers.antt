@@ -2,8 +2,8 @@ use Rattle.std.proofs.Common.{ℕ, subst}
 use Rattle.std.specs.Prelude.{IfSome}
 use Rattle.club_core.specs.Game.{Game}
 use Rattle.club_core.specs.View.{Shows}
-use Rattle.club_rows.specs.Replay.{terms_given}
-use Rattle.club_rows.specs.RowView.{HasLastStood}
+use Rattle.club_rows.specs.internal.Replay.{terms_given}
+use Rattle.club_rows.specs.internal.RowView.{HasLastStood}
 use Rattle.club_changes.specs.Steps.{IsRecordOf}
 use Rattle.club_reads.proofs.shown.view.Goals as goal
 

@@ -2,8 +2,8 @@ use Rattle.std.proofs.Common.{true, refl, sym, subst, arith}
 use Rattle.sqlite.specs.Held.{state}
 use Rattle.sqlite.specs.State.{HasCleanDisk}
 use Rattle.club_core.specs.Legal.{IsLegalGame}
-use Rattle.club_rows.specs.Replay.{terms_given}
-use Rattle.club_rows.specs.RowView.{AreRowsAt}
+use Rattle.club_rows.specs.internal.Replay.{terms_given}
+use Rattle.club_rows.specs.internal.RowView.{AreRowsAt}
 use Rattle.store_tables.proofs.Proved.{read_then, still_rows}
 use Rattle.club_reads.proofs.shown.view_at_ply.Goals as goal
 

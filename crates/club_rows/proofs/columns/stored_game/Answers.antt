@@ -1,7 +1,7 @@
 use Rattle.std.proofs.Common.{refl, sym, subst, arith, rules}
 use Rattle.std.proofs.lemmas.Int.{ints}
 use Rattle.store_tables.specs.Cells.{game_cells}
-use Rattle.club_rows.specs.Columns.{IsReadAs}
+use Rattle.club_rows.specs.internal.Columns.{IsReadAs}
 use Rattle.club_rows.proofs.ColumnLemmas.{cells-told, columns-cells}
 use Rattle.club_rows.proofs.columns.stored_game.Goals as goal
 

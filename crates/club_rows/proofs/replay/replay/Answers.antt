@@ -2,7 +2,7 @@ use Rattle.std.proofs.Common.{◌<◌, ◌∙◌, refl, ap, subst, sym, arith}
 use Rattle.std.specs.Prelude.{ℕ, ◌+◌}
 use Rattle.std.proofs.lemmas.Option.{slice_get_read}
 use Rattle.club_rules.specs.Line.{position_after}
-use Rattle.club_rows.specs.Replay.{IsReplayed, game_from, terms_given}
+use Rattle.club_rows.specs.internal.Replay.{IsReplayed, game_from, terms_given}
 use Rattle.club_rows.proofs.WholeLemmas.{was-start, was-more, was-none, played-count}
 use Rattle.club_rows.proofs.replay.replay.Goals as goal
 

@@ -1,4 +1,4 @@
-use Rattle.club_rows.specs.Replay.{IsReplayed, WasReplayed, terms_given}
+use Rattle.club_rows.specs.internal.Replay.{IsReplayed, WasReplayed, terms_given}
 use Rattle.club_rows.proofs.replay.replay.Given as goal
 
 abbrev pub invariant-loop-row : goal.invariant-loop-row

@@ -1,6 +1,6 @@
 use Rattle.std.proofs.Common.{◌∙◌, ap}
 use Rattle.std.specs.Prelude.{Some, cond}
-use Rattle.club_rows.specs.Tally.{same_text}
+use Rattle.club_rows.specs.internal.Tally.{same_text}
 use Rattle.club_rows.proofs.TallyLemmas.{tally-start, seen-none}
 use Rattle.club_rows.proofs.ReplayLemmas.{start-replayed}
 use Rattle.club_rows.proofs.replay.start.Goals as goal

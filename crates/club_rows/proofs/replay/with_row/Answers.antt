@@ -1,6 +1,6 @@
 use Rattle.std.proofs.Common.{◌≤◌, ◌+◌, length, subst, arith, ◌∙◌}
 use Rattle.club_rules.specs.Line.{IsLegalLine}
-use Rattle.club_rows.specs.Replay.{IsNext, terms_with, left_in}
+use Rattle.club_rows.specs.internal.Replay.{IsNext, terms_with, left_in}
 use Rattle.club_rows.proofs.NextLemmas.{follows-next, next-follows, replays-more}
 use Rattle.club_rows.proofs.ReplayLemmas.{replayed-more}
 use Rattle.club_rows.proofs.replay.with_row.Goals as goal

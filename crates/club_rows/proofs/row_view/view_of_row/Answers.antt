@@ -1,8 +1,8 @@
 use Rattle.std.proofs.Common.{sym, ◌∙◌, ap}
 use Rattle.std.proofs.lemmas.Option.{same_Some}
 use Rattle.club_core.specs.Game.{moves_of}
-use Rattle.club_rows.specs.Columns.{columns_in}
-use Rattle.club_rows.specs.Replay.{terms_given}
+use Rattle.club_rows.specs.internal.Columns.{columns_in}
+use Rattle.club_rows.specs.internal.Replay.{terms_given}
 use Rattle.club_rows.proofs.ColumnLemmas.{columns-are, none-read}
 use Rattle.club_rows.proofs.RowViewLemmas.{position-found, track-is}
 use Rattle.club_rows.proofs.row_view.view_of_row.Goals as goal

@@ -1,5 +1,5 @@
 use Rattle.std.proofs.Common.{refl}
-use Rattle.club_rows.specs.NextScores.{pair_of}
+use Rattle.club_rows.specs.internal.NextScores.{pair_of}
 use Rattle.club_rows.specs.Scores.{own_first, own_second}
 use Rattle.club_rows.proofs.ScoreAfter.{unfit_many, next_rows}
 use Rattle.club_rows.proofs.scores.score_after.Goals as goal

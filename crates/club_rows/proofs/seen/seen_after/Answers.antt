@@ -1,7 +1,8 @@
 use Rattle.std.proofs.Common.{◌+◌, Some, None, ap, subst, ◌∙◌}
 use Rattle.std.specs.Option.{option_map}
 use Rattle.store_tables.specs.Cells.{seen_cells}
-use Rattle.club_rows.specs.Seen.{seen_row, IsFound}
+use Rattle.club_rows.specs.Seen.{seen_row}
+use Rattle.club_rows.specs.internal.Seen.{IsFound}
 use Rattle.club_rows.proofs.SeenAfter.{seen-next}
 use Rattle.club_rows.proofs.seen.seen_after.Goals as goal
 

@@ -1,5 +1,5 @@
-use Rattle.club_rows.specs.Columns.{columns_in}
-use Rattle.club_rows.specs.Replay.{IsCounted, terms_given}
+use Rattle.club_rows.specs.internal.Columns.{columns_in}
+use Rattle.club_rows.specs.internal.Replay.{IsCounted, terms_given}
 use Rattle.club_rows.proofs.ColumnLemmas.{cells-told}
 use Rattle.club_rows.proofs.LegalRowsLemmas.{WasViewed, moves-wrong, none-wrong, no-rows, shown-complete, shown-sound}
 use Rattle.club_rows.proofs.LegalRowsLemmas.{told-wrong}

@@ -1,6 +1,6 @@
 use Rattle.std.proofs.Common.{ap, ◌∙◌}
 use Rattle.club_rules.specs.Line.{line_track}
-use Rattle.club_rows.specs.Replay.{terms_given}
+use Rattle.club_rows.specs.internal.Replay.{terms_given}
 use Rattle.club_rows.proofs.view.viewed.Goals as goal
 
 pub returns-clause-shows : goal.returns-clause-shows

@@ -1,6 +1,6 @@
 use Rattle.std.proofs.Common.{arith}
 use Rattle.std.proofs.lemmas.Int.{ints}
-use Rattle.club_rows.specs.Replay.{terms_given}
+use Rattle.club_rows.specs.internal.Replay.{terms_given}
 use Rattle.club_rows.proofs.LegalRowsLemmas.{moves-right, moves-wrong}
 use Rattle.club_rows.proofs.view.without_row.Goals as goal
 

@@ -11,7 +11,7 @@ use Rattle.server.specs.declared.connections.Served.{Served}
 use Rattle.store.proofs.Proved.{current_taken, holds_beside, still_stands}
 use Rattle.club_session.specs.Served.{beside_them}
 use Rattle.club_session.specs.ServedStates.{IsServed}
-use Rattle.club_session.specs.Turns.{IsHistoryOn, IsReachableOn}
+use Rattle.club_session.specs.internal.Turns.{IsHistoryOn, IsReachableOn}
 use Rattle.club_session.proofs.ToldLemmas.{untaken, good_told, served_told, served_taken, served_good, none_failed, stood}
 use Rattle.club_session.proofs.TurnLemmas.{reads_led}
 use Rattle.club_session.proofs.serving.serve_club.Goals as goal

@@ -9,7 +9,7 @@ use Rattle.server.specs.Acknowledged.{LeadTo}
 use Rattle.server.specs.declared.connections.Served.{Served}
 use Rattle.club_session.specs.Served.{DeskState, served}
 use Rattle.club_session.specs.ServedStates.{IsServed}
-use Rattle.club_session.specs.Turns.{IsHistoryOn}
+use Rattle.club_session.specs.internal.Turns.{IsHistoryOn}
 use Rattle.club_session.proofs.serving.serve_open.Given as goal
 
 abbrev pub invariant-loop : goal.invariant-loop

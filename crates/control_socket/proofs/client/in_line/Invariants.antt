@@ -1,5 +1,5 @@
 use Rattle.std.proofs.Common.{◌≡◌, map, string_bytes, take}
-use Rattle.control_socket.specs.Asking.{joined}
+use Rattle.control_socket.specs.internal.Asking.{joined}
 use Rattle.control_socket.proofs.client.in_line.Given as goal
 
 -- the words so far stand one behind the other

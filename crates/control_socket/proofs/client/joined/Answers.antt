@@ -1,5 +1,5 @@
 use Rattle.std.proofs.Common.{◌∙◌, ap}
-use Rattle.control_socket.specs.Asking.{parted}
+use Rattle.control_socket.specs.internal.Asking.{parted}
 use Rattle.control_socket.proofs.JoinLemmas.{parted_joined}
 use Rattle.control_socket.proofs.client.joined.Goals as goal
 

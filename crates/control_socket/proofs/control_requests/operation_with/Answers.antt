@@ -1,5 +1,5 @@
 use Rattle.std.proofs.Common.{◌∙◌, ap}
-use Rattle.control_socket.specs.Asking.{operation_of}
+use Rattle.control_socket.specs.internal.Asking.{operation_of}
 use Rattle.control_socket.proofs.control_requests.operation_with.Goals as goal
 
 pub returns : goal.returns

@@ -1,4 +1,4 @@
-use Rattle.csa.specs.Writer.{lines_text}
+use Rattle.csa.specs.internal.Writer.{lines_text}
 use Rattle.csa.proofs.game_text.write_game.Goals as goal
 
 pub returns : goal.returns

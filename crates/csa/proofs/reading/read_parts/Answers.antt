@@ -3,7 +3,8 @@ use Rattle.std.specs.Prelude.{IfOk, IfErr}
 use Rattle.std.specs.List.{slice_split}
 use Rattle.std.proofs.lemmas.List.{take-map}
 use Rattle.csa.specs.declared.lines.NumberedStatement.{NumberedStatement}
-use Rattle.csa.specs.Reading.{AreRecordsOf, FailsOrMemory, is_parting, records_of, without_bare_last}
+use Rattle.csa.specs.Reading.{is_parting, records_of, without_bare_last}
+use Rattle.csa.specs.internal.Reading.{AreRecordsOf, FailsOrMemory}
 use Rattle.csa.proofs.reading.read_parts.Goals as goal
 
 -- the first of the parts are the records

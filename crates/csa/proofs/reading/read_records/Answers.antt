@@ -1,5 +1,5 @@
 use Rattle.std.proofs.Common.{map, rules}
-use Rattle.csa.specs.Reading.{FailsOrMemory}
+use Rattle.csa.specs.internal.Reading.{FailsOrMemory}
 use Rattle.csa.proofs.RecordLemmas.{fails-record, records-more}
 use Rattle.csa.proofs.reading.read_records.Goals as goal
 

@@ -1,5 +1,5 @@
 use Rattle.std.proofs.Common.{take, map}
-use Rattle.csa.specs.Reading.{AreRecordsOf}
+use Rattle.csa.specs.internal.Reading.{AreRecordsOf}
 use Rattle.csa.proofs.reading.read_records.Given as goal
 
 abbrev pub invariant-loop-i : goal.invariant-loop-i

@@ -7,7 +7,7 @@ use Rattle.csa.specs.declared.faults.CsaFault.{CsaFault}
 use Rattle.csa.specs.declared.faults.CsaFault.TheVariants as fault
 use Rattle.csa.specs.declared.statements.WrittenMove.{WrittenMove}
 use Rattle.csa.specs.Moves.{Means}
-use Rattle.csa.specs.Replaying.{RefusesMade, RefusesWritten}
+use Rattle.csa.specs.internal.Replaying.{RefusesMade, RefusesWritten}
 use Rattle.csa.proofs.replay.push.Goals as goal
 
 -- what refuses a move refuses the written move that means it

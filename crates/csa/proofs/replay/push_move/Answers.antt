@@ -5,7 +5,7 @@ use Rattle.squares.specs.ShogiOpening.{opening}
 use Rattle.squares.specs.ShogiSets.{ShogiPosition}
 use Rattle.shogi_moves.specs.Rules.{Legal, play}
 use Rattle.shogi_repetition.specs.Line.{last_position}
-use Rattle.shogi_repetition.specs.Counting.{Follows}
+use Rattle.shogi_repetition.specs.internal.Counting.{Follows}
 use Rattle.shogi_repetition.specs.Faults.{shogi_lines}
 use Rattle.csa.proofs.ReplayLemmas.{made-fault}
 use Rattle.csa.proofs.replay.push_move.Goals as goal

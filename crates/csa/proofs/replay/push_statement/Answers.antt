@@ -5,7 +5,7 @@ use Rattle.squares.specs.ShogiOpening.{opening}
 use Rattle.csa.specs.declared.statements.WrittenMove.{WrittenMove}
 use Rattle.csa.specs.declared.statements.Statement.{Statement}
 use Rattle.csa.specs.declared.statements.Statement.TheVariants as statement
-use Rattle.csa.specs.Replaying.{GrowsBy, GrowsWith}
+use Rattle.csa.specs.internal.Replaying.{GrowsBy, GrowsWith}
 use Rattle.csa.proofs.ReplayLemmas.{mean-more}
 use Rattle.csa.proofs.replay.push_statement.Goals as goal
 

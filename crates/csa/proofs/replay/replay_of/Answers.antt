@@ -3,7 +3,8 @@ use Rattle.std.proofs.lemmas.List.{take_more}
 use Rattle.squares.specs.ShogiOpening.{opening}
 use Rattle.csa.specs.declared.lines.NumberedStatement.{NumberedStatement}
 use Rattle.csa.specs.Moves.{MeanAll}
-use Rattle.csa.specs.Replays.{written_moves, RefusesMoves}
+use Rattle.csa.specs.Replays.{written_moves}
+use Rattle.csa.specs.internal.Replays.{RefusesMoves}
 use Rattle.csa.proofs.RecordLemmas.{written-more, refuses-record}
 use Rattle.csa.proofs.replay.replay_of.Goals as goal
 

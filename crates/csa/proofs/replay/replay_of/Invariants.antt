@@ -2,7 +2,7 @@ use Rattle.std.proofs.Common.{take}
 use Rattle.squares.specs.ShogiOpening.{opening}
 use Rattle.csa.specs.Moves.{MeanAll}
 use Rattle.csa.specs.Replays.{written_moves}
-use Rattle.csa.specs.Replaying.{IsConsistent}
+use Rattle.csa.specs.internal.Replaying.{IsConsistent}
 use Rattle.csa.proofs.replay.replay_of.Given as goal
 
 pub record Replayed (IsStanding IsMeant : Type 0) : Type 0 where

@@ -1,7 +1,7 @@
 use Rattle.std.proofs.Common.{◌≡◌, ℕ, List, [], ◌∷◌, ◌++◌, codes, append_assoc}
 use Rattle.std.specs.Prelude.{string_bytes}
 use Rattle.csa.specs.Writing.{line_of, date_text}
-use Rattle.csa.specs.Writer.{lines_text}
+use Rattle.csa.specs.internal.Writer.{lines_text}
 use Rattle.csa.proofs.writing.push_head.Goals as goal
 
 -- nine texts added one after another

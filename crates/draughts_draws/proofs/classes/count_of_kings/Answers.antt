@@ -2,7 +2,7 @@ use Rattle.std.proofs.Common.{◌&&◌, ap, ◌∙◌}
 use Rattle.std.specs.Cmp.{nat_cmp_total}
 use Rattle.std.specs.FinMap as map
 use Rattle.std.specs.FinSet as set
-use Rattle.squares.specs.DraughtsBoard.{is_of}
+use Rattle.squares.specs.internal.DraughtsBoard.{is_of}
 use Rattle.draughts_draws.specs.Ends.{is_king_of, count_of_kings}
 use Rattle.draughts_draws.proofs.SizeLemmas.{len-counts, king_is}
 use Rattle.draughts_draws.proofs.classes.count_of_kings.Goals as goal

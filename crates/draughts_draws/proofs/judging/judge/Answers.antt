@@ -1,8 +1,9 @@
 use Rattle.std.proofs.Common.{subst, length, rules}
 use Rattle.std.proofs.lemmas.List.{take_all}
 use Rattle.game_history.proofs.Proved.{fault-of-beginning, grown}
-use Rattle.draughts_draws.specs.Faults.{draughts_lines, IsPlayed, HasFault}
-use Rattle.draughts_draws.specs.Counting.{Follows}
+use Rattle.draughts_draws.specs.Faults.{draughts_lines, IsPlayed}
+use Rattle.draughts_draws.specs.internal.Faults.{HasFault}
+use Rattle.draughts_draws.specs.internal.Counting.{Follows}
 use Rattle.draughts_draws.proofs.judging.judge.Goals as goal
 
 pub returns-in_err-push-clause-fault : goal.returns-in_err-push-clause-fault

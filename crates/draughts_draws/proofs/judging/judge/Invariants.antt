@@ -1,5 +1,5 @@
 use Rattle.std.proofs.Common.{take}
-use Rattle.draughts_draws.specs.Counting.{Follows}
+use Rattle.draughts_draws.specs.internal.Counting.{Follows}
 use Rattle.draughts_draws.proofs.judging.judge.Given as goal
 
 abbrev pub invariant-loop-played : goal.invariant-loop-played

@@ -1,6 +1,6 @@
 use Rattle.std.proofs.Common.{◌≡◌, refl, true, false, length, sym, ap, ◌∙◌, arith}
-use Rattle.draughts_moves.specs.Search.{can_move, has_move}
-use Rattle.squares.specs.In.{list_any-here, list_any-past, list_any-end}
+use Rattle.draughts_moves.specs.internal.Search.{can_move, has_move}
+use Rattle.squares.specs.internal.In.{list_any-here, list_any-past, list_any-end}
 use Rattle.draughts_moves.proofs.MoveLemmas.{has_move-sound, has_move-complete}
 use Rattle.draughts_moves.proofs.checking.has_move.Goals as goal
 

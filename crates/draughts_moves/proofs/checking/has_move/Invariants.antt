@@ -1,6 +1,6 @@
 use Rattle.std.proofs.Common.{◌≡◌, drop}
 use Rattle.std.specs.List.{list_any}
-use Rattle.draughts_moves.specs.Search.{can_move}
+use Rattle.draughts_moves.specs.internal.Search.{can_move}
 use Rattle.draughts_moves.proofs.checking.has_move.Given as goal
 
 abbrev pub invariant-loop-square : goal.invariant-loop-square

@@ -1,7 +1,7 @@
 use Rattle.std.proofs.Common.{◌≡◌, ◌+◌, ℕ, arith, subst, sym}
 use Rattle.std.specs.List.{sum_by}
 use Rattle.squares.specs.DraughtsSets.{ascending}
-use Rattle.draughts_moves.specs.Counting.{quiet_count, king_count, sum_squares}
+use Rattle.draughts_moves.specs.internal.Counting.{quiet_count, king_count, sum_squares}
 use Rattle.draughts_moves.proofs.CountLemmas.{kings-counted, kings-few, popped_sum}
 use Rattle.draughts_moves.proofs.counting.count_of_kings.Goals as goal
 

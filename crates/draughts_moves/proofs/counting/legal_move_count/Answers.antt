@@ -1,6 +1,7 @@
 use Rattle.std.proofs.Common.{[], length, ap, ◌∙◌, arith}
 use Rattle.squares.specs.OrderedLists.{put_all}
-use Rattle.draughts_moves.specs.Listing.{move_cmp, moves, quiet_list}
+use Rattle.draughts_moves.specs.Listing.{move_cmp, moves}
+use Rattle.draughts_moves.specs.internal.Listing.{quiet_list}
 use Rattle.draughts_moves.proofs.LegalLists.{all-sorted, members_all, quiet_all}
 use Rattle.draughts_moves.proofs.ListLemmas.{quiet-sorted}
 use Rattle.draughts_moves.proofs.MostLemmas.{IsMost-most}

@@ -2,7 +2,7 @@ use Rattle.std.proofs.Common.{rules, ◌≡◌, false, sym, ◌∙◌}
 use Rattle.squares.specs.declared.draughts.direction.Direction.{Direction}
 use Rattle.squares.specs.declared.draughts.direction.Direction.TheVariants.{UpLeft, UpRight, DownLeft, DownRight}
 use Rattle.squares.specs.DraughtsSets.{Squares}
-use Rattle.draughts_moves.specs.Search.{AreExposed}
+use Rattle.draughts_moves.specs.internal.Search.{AreExposed}
 use Rattle.draughts_moves.proofs.IdleLemmas.{first_able, less_able, faces_none}
 use Rattle.draughts_moves.proofs.exposure.jumping_kings.Goals as goal
 

@@ -1,7 +1,8 @@
 use Rattle.std.proofs.Common.{◌≡◌, ℕ, ◌+◌, ◌-◌, ◌≤◌, ◌∷◌, [], ◌++◌, List, length, ◌∙◌, refl, sym, ap, arith}
 use Rattle.std.proofs.Common.{append_assoc}
 use Rattle.std.proofs.lemmas.List.{length-append, append-nil}
-use Rattle.squares.specs.DraughtsGeometry.{line, ray, line-step, line-edge}
+use Rattle.squares.specs.DraughtsGeometry.{line, ray}
+use Rattle.squares.specs.internal.DraughtsGeometry.{line-step, line-edge}
 use Rattle.draughts_moves.proofs.LineLemmas.{some-is_none, not_some-is_none}
 use Rattle.draughts_moves.proofs.jumps.landings.Goals as goal
 

@@ -1,7 +1,7 @@
 use Rattle.std.proofs.Common.{◌++◌, ap, ◌∙◌}
 use Rattle.std.specs.List.{flat_map}
 use Rattle.squares.specs.DraughtsSets.{ascending}
-use Rattle.draughts_moves.specs.Listing.{quiet_in_order}
+use Rattle.draughts_moves.specs.internal.Listing.{quiet_in_order}
 use Rattle.draughts_moves.proofs.ListLemmas.{quiet-of_able}
 use Rattle.draughts_moves.proofs.listing.quiet_moves.Goals as goal
 

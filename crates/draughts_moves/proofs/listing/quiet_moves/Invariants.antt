@@ -1,7 +1,7 @@
 use Rattle.std.proofs.Common.{◌≡◌, ◌++◌, length}
 use Rattle.std.specs.List.{flat_map}
 use Rattle.squares.specs.DraughtsSets.{ascending}
-use Rattle.draughts_moves.specs.Listing.{quiet_in_order, quiet_list}
+use Rattle.draughts_moves.specs.internal.Listing.{quiet_in_order, quiet_list}
 use Rattle.draughts_moves.proofs.listing.quiet_moves.Given as goal
 
 abbrev pub invariant-loop-square : goal.invariant-loop-square

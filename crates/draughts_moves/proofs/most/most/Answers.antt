@@ -1,5 +1,5 @@
 use Rattle.std.proofs.Common.{rules, ◌≡◌, ◌≤◌, max, arith, sym, ap, ◌∙◌, subst}
-use Rattle.draughts_moves.specs.Capture.{IsMost}
+use Rattle.draughts_moves.specs.internal.Capture.{IsMost}
 use Rattle.draughts_moves.specs.Search.{greatest_at, most}
 use Rattle.draughts_moves.proofs.MostLemmas.{IsMost-most}
 use Rattle.draughts_moves.proofs.MaxLemmas.{most-able, popped_most, popped_end}

@@ -7,7 +7,7 @@ use Rattle.draughts_moves.specs.declared.mover.Mover.{Mover}
 use Rattle.draughts_moves.specs.Capture.{Cells, without}
 use Rattle.draughts_moves.specs.Search.{greatest, jumps, prey_left}
 use Rattle.draughts_moves.specs.Listing.{move_cmp}
-use Rattle.draughts_moves.specs.Found.{kept}
+use Rattle.draughts_moves.specs.internal.Found.{kept}
 use Rattle.draughts_moves.proofs.FoundLemmas.{no_jumps, greatest-end, ends_of-end, most-begun, all-gone, gone-on, among}
 use Rattle.draughts_moves.proofs.FoundLemmas.{come-back, gathers-end, after, by_jump, ends_by}
 use Rattle.draughts_moves.proofs.JumpLemmas.{jumps-sound}

@@ -5,7 +5,7 @@ use Rattle.squares.specs.OrderedLists.{put_all}
 use Rattle.draughts_moves.specs.Capture.{without}
 use Rattle.draughts_moves.specs.Search.{jumps, greatest, prey_left}
 use Rattle.draughts_moves.specs.Listing.{move_cmp}
-use Rattle.draughts_moves.specs.Found.{kept}
+use Rattle.draughts_moves.specs.internal.Found.{kept}
 use Rattle.draughts_moves.proofs.FoundLemmas.{Gathers, by_jump, ends_by}
 use Rattle.draughts_moves.proofs.move_visitor.+seek.Given as goal
 

@@ -2,7 +2,7 @@ use Rattle.std.proofs.Common.{[], ap, ◌∙◌}
 use Rattle.squares.specs.OrderedLists.{put_all}
 use Rattle.draughts_moves.specs.Search.{greatest_at, most}
 use Rattle.draughts_moves.specs.Listing.{move_cmp}
-use Rattle.draughts_moves.specs.Found.{captured}
+use Rattle.draughts_moves.specs.internal.Found.{captured}
 use Rattle.draughts_moves.proofs.FoundLemmas.{captured-able, captured-moves, popped-on, gathers-end, sorted-none}
 use Rattle.draughts_moves.proofs.FoundLemmas.{kept-none}
 use Rattle.draughts_moves.proofs.MaxLemmas.{most-able}

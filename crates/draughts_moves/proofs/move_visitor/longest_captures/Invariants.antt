@@ -3,7 +3,7 @@ use Rattle.squares.specs.DraughtsSets.{ascending}
 use Rattle.squares.specs.OrderedLists.{put_all}
 use Rattle.draughts_moves.specs.Search.{greatest_at, most}
 use Rattle.draughts_moves.specs.Listing.{move_cmp}
-use Rattle.draughts_moves.specs.Found.{captured}
+use Rattle.draughts_moves.specs.internal.Found.{captured}
 use Rattle.draughts_moves.proofs.FoundLemmas.{Gathers, all_captured}
 use Rattle.draughts_moves.proofs.move_visitor.longest_captures.Given as goal
 

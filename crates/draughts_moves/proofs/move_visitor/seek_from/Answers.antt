@@ -1,7 +1,7 @@
 use Rattle.std.proofs.Common.{sym, ◌∙◌, refl, arith}
 use Rattle.std.specs.Ordering.{nat_cmp}
 use Rattle.std.specs.FinSet.{len-empty}
-use Rattle.squares.specs.DraughtsMarks.{nat_eq_same}
+use Rattle.squares.specs.internal.DraughtsMarks.{nat_eq_same}
 use Rattle.draughts_moves.proofs.FoundLemmas.{ends_of-piece, captured-no_piece}
 use Rattle.draughts_moves.proofs.MostLemmas.{greatest_at-own, greatest_at-none}
 use Rattle.draughts_moves.proofs.move_visitor.seek_from.Goals as goal

@@ -2,10 +2,10 @@ use Rattle.std.proofs.Common.{true, List, [], ◌∷◌, length, ◌≡◌, ℕ,
 use Rattle.std.proofs.lemmas.List.{take_all}
 use Rattle.draughts_moves.specs.Capture.{Cells, without, Route}
 use Rattle.squares.specs.declared.draughts.piece.DPiece.{DPiece}
-use Rattle.squares.specs.DraughtsMarks.{nat_eq-same}
+use Rattle.squares.specs.internal.DraughtsMarks.{nat_eq-same}
 use Rattle.squares.specs.DraughtsSets.{Squares, same_squares}
-use Rattle.squares.specs.DraughtsSameSquares.{same_squares-same, same_squares-itself}
-use Rattle.squares.specs.In.{In, In-take_more}
+use Rattle.squares.specs.internal.DraughtsSameSquares.{same_squares-same, same_squares-itself}
+use Rattle.squares.specs.internal.In.{In, In-take_more}
 use Rattle.draughts_moves.proofs.Basics.{In-item}
 use Rattle.draughts_moves.proofs.RouteLemmas.{Reaches-by, Reaches-first}
 use Rattle.draughts_moves.proofs.reaches.+reaches.Goals as goal

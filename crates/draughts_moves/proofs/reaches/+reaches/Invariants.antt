@@ -1,8 +1,9 @@
 use Rattle.std.proofs.Common.{◌≡◌, ◌-◌, ℕ, take}
 use Rattle.std.specs.FinSet as set
-use Rattle.draughts_moves.specs.Capture.{without, Reaches}
+use Rattle.draughts_moves.specs.Capture.{without}
+use Rattle.draughts_moves.specs.internal.Capture.{Reaches}
 use Rattle.draughts_moves.specs.Search.{jumps}
-use Rattle.squares.specs.In.{In}
+use Rattle.squares.specs.internal.In.{In}
 use Rattle.draughts_moves.proofs.reaches.+reaches.Given as goal
 
 abbrev pub invariant-loop-over : goal.invariant-loop-over

@@ -2,9 +2,10 @@ use Rattle.std.proofs.Common.{◌-◌, [], ◌∷◌, ◌++◌, ap, ◌∙◌, a
 use Rattle.std.specs.Prelude.{vec_len}
 use Rattle.std.specs.FinSet as set
 use Rattle.std.proofs.lemmas.List.{take_all}
-use Rattle.squares.specs.PutLemmas.{put_all-more}
+use Rattle.squares.specs.internal.PutLemmas.{put_all-more}
 use Rattle.draughts_moves.specs.Capture.{without}
-use Rattle.draughts_moves.specs.Routes.{route_cmp, lists_in, landings_of}
+use Rattle.draughts_moves.specs.Routes.{route_cmp, landings_of}
+use Rattle.draughts_moves.specs.internal.Routes.{lists_in}
 use Rattle.draughts_moves.proofs.RoutingLemmas.{route_cmp-total, none_left, more_left, longer_path, without_last}
 use Rattle.draughts_moves.proofs.RoutingLemmas.{by_jump}
 use Rattle.draughts_moves.proofs.routing.+collect_routes.Goals as goal

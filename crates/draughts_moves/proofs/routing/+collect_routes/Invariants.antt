@@ -3,7 +3,8 @@ use Rattle.std.specs.List.{flat_map}
 use Rattle.squares.specs.OrderedLists.{put_all}
 use Rattle.draughts_moves.specs.Capture.{without}
 use Rattle.draughts_moves.specs.Search.{jumps}
-use Rattle.draughts_moves.specs.Routes.{route_cmp, lists_in}
+use Rattle.draughts_moves.specs.Routes.{route_cmp}
+use Rattle.draughts_moves.specs.internal.Routes.{lists_in}
 use Rattle.draughts_moves.proofs.RoutingLemmas.{by_jump}
 use Rattle.draughts_moves.proofs.routing.+collect_routes.Given as goal
 

@@ -1,6 +1,7 @@
 use Rattle.std.proofs.Common.{sym, ◌∙◌, arith}
-use Rattle.squares.specs.PutLemmas.{put-at_equal, put-at_greater, put-at_less}
-use Rattle.draughts_moves.specs.Routes.{route_cmp, lists_in}
+use Rattle.squares.specs.internal.PutLemmas.{put-at_equal, put-at_greater, put-at_less}
+use Rattle.draughts_moves.specs.Routes.{route_cmp}
+use Rattle.draughts_moves.specs.internal.Routes.{lists_in}
 use Rattle.draughts_moves.proofs.RoutingLemmas.{route_cmp-total, list_at, length-lists_in, put-last}
 use Rattle.draughts_moves.proofs.routing.place_of.Goals as goal
 

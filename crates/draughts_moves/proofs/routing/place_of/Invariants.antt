@@ -1,6 +1,7 @@
 use Rattle.std.proofs.Common.{◌≡◌, ◌++◌, take, drop}
 use Rattle.squares.specs.OrderedLists.{put}
-use Rattle.draughts_moves.specs.Routes.{route_cmp, lists_in}
+use Rattle.draughts_moves.specs.Routes.{route_cmp}
+use Rattle.draughts_moves.specs.internal.Routes.{lists_in}
 use Rattle.draughts_moves.proofs.routing.place_of.Given as goal
 
 abbrev pub invariant-loop-i : goal.invariant-loop-i

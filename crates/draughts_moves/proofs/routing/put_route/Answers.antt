@@ -1,5 +1,5 @@
 use Rattle.std.proofs.Common.{sym, ap, ◌∙◌}
-use Rattle.draughts_moves.specs.Routes.{lists_in}
+use Rattle.draughts_moves.specs.internal.Routes.{lists_in}
 use Rattle.draughts_moves.proofs.RoutingLemmas.{lists_in-insert}
 use Rattle.draughts_moves.proofs.routing.put_route.Goals as goal
 

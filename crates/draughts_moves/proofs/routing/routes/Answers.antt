@@ -2,7 +2,8 @@ use Rattle.std.proofs.Common.{◌≡◌, ℕ, List, [], sym, ◌∙◌}
 use Rattle.std.specs.FinSet as set
 use Rattle.squares.specs.OrderedLists.{put_all}
 use Rattle.draughts_moves.specs.Capture.{without}
-use Rattle.draughts_moves.specs.Routes.{route_cmp, lists_in, landings_of}
+use Rattle.draughts_moves.specs.Routes.{route_cmp, landings_of}
+use Rattle.draughts_moves.specs.internal.Routes.{lists_in}
 use Rattle.draughts_moves.proofs.RoutingLemmas.{sorted_routes, same_list, found-captures}
 use Rattle.draughts_moves.proofs.routing.routes.Goals as goal
 

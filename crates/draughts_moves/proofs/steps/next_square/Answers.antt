@@ -2,7 +2,7 @@ use Rattle.std.proofs.Common.{nat_eq, sym, ◌∙◌}
 use Rattle.std.specs.Ordering.{nat_cmp}
 use Rattle.std.specs.FinSet.{contains-empty}
 use Rattle.std.proofs.Math.Bool.{or-false}
-use Rattle.squares.specs.DraughtsMarks.{contains-insert_nat}
+use Rattle.squares.specs.internal.DraughtsMarks.{contains-insert_nat}
 use Rattle.draughts_moves.proofs.LineLemmas.{turned}
 use Rattle.draughts_moves.proofs.steps.next_square.Goals as goal
 

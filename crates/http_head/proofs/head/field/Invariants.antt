@@ -1,7 +1,7 @@
 use Rattle.std.proofs.Common.{◌≡◌, ◌++◌, drop, map}
 use Rattle.httparse.specs.Spans.{header_bytes}
 use Rattle.http_head.specs.Head.{values}
-use Rattle.http_head.specs.HeadViews.{listed, IsNotTwice}
+use Rattle.http_head.specs.internal.HeadViews.{listed, IsNotTwice}
 use Rattle.http_head.proofs.head.field.Given as goal
 
 abbrev pub invariant-loop-span : goal.invariant-loop-span

@@ -1,5 +1,5 @@
 use Rattle.std.proofs.Common.{◌≡◌, Ok, Err, true, false, nat_lt, length, refl, arith}
-use Rattle.http_head.specs.HeadViews.{outline_view}
+use Rattle.http_head.specs.internal.HeadViews.{outline_view}
 use Rattle.http_head.proofs.RequestLemmas.{no_end, none_found, is_head_alone, sees_by, asks_none, asks_some}
 use Rattle.http_head.proofs.request.read_request.Goals as goal
 

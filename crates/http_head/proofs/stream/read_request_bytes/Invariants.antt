@@ -1,4 +1,4 @@
-use Rattle.http_head.specs.Intake.{HasTaken, IsIntake}
+use Rattle.http_head.specs.internal.Intake.{HasTaken, IsIntake}
 use Rattle.http_head.proofs.stream.read_request_bytes.Given as goal
 
 abbrev pub invariant-loop : goal.invariant-loop

@@ -1,6 +1,6 @@
 use Rattle.std.proofs.Common.{length, Ok, Err}
 use Rattle.pdn.specs.FenForm.{Header, ReadsLists, ReadsForm, bad_header, lists}
-use Rattle.pdn.specs.FenValues.{form_value}
+use Rattle.pdn.specs.internal.FenValues.{form_value}
 use Rattle.pdn.proofs.FenFormLemmas.{IsBadAt-map}
 use Rattle.pdn.proofs.fen_form.read_fen_form.Goals as goal
 

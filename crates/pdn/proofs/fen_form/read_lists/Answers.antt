@@ -3,7 +3,7 @@ use Rattle.squares.specs.declared.sides.Side.{Side}
 use Rattle.pdn.specs.declared.items.Item.{Item}
 use Rattle.pdn.specs.FenItems.{Items, ItemsReading, ReadsList}
 use Rattle.pdn.specs.FenForm.{FenReading, ReadsRest, ReadsLists, bad_first, bad_between, both}
-use Rattle.pdn.specs.FenValues.{form_value}
+use Rattle.pdn.specs.internal.FenValues.{form_value}
 use Rattle.pdn.proofs.FenFormLemmas.{IsBadAt-map}
 use Rattle.pdn.proofs.fen_form.read_lists.Goals as goal
 

@@ -1,7 +1,7 @@
 use Rattle.std.proofs.Common.{◌≡◌, Ok, sym, subst}
 use Rattle.std.specs.Prelude.{IfOk, IfErr}
 use Rattle.pdn.specs.Forms.{FormReading}
-use Rattle.pdn.specs.ReadForms.{form_of, IsBadForm}
+use Rattle.pdn.specs.internal.ReadForms.{form_of, IsBadForm}
 use Rattle.pdn.proofs.FormLemmas.{read_form-quiet, read_form-capture, read_form-stops, read_form-bad}
 use Rattle.pdn.proofs.forms.read_form.Goals as goal
 

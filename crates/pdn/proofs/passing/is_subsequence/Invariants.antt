@@ -1,5 +1,5 @@
 use Rattle.std.proofs.Common.{◌≡◌, drop}
-use Rattle.pdn.specs.Subsequence.{is_subsequence}
+use Rattle.pdn.specs.internal.Subsequence.{is_subsequence}
 use Rattle.pdn.proofs.passing.is_subsequence.Given as goal
 
 abbrev pub invariant-loop-square : goal.invariant-loop-square

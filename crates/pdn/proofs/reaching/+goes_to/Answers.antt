@@ -2,13 +2,13 @@ use Rattle.std.proofs.Common.{◌≡◌, ℕ, ◌<◌, List, inl, inr, get_or, l
 use Rattle.std.specs.FinSet as set
 use Rattle.std.proofs.lemmas.List.{take_all}
 use Rattle.squares.specs.DraughtsBoard.{Position}
-use Rattle.squares.specs.In.{In, In-get_or, In-take_more}
+use Rattle.squares.specs.internal.In.{In, In-get_or, In-take_more}
 use Rattle.draughts_moves.specs.Capture.{without}
 use Rattle.draughts_moves.specs.Search.{jumps, prey_left}
 use Rattle.draughts_moves.proofs.Proved.{jumps-sound, prey_left-falls}
 use Rattle.draughts_moves.specs.declared.mover.Mover.{Mover}
-use Rattle.pdn.specs.Subsequence.{unmatched_after}
-use Rattle.pdn.specs.Reaching.{GoesTo, StepsTo}
+use Rattle.pdn.specs.internal.Subsequence.{unmatched_after}
+use Rattle.pdn.specs.internal.Reaching.{GoesTo, StepsTo}
 use Rattle.pdn.proofs.PassingLemmas.{GoesTo-by, GoesTo-first}
 use Rattle.pdn.proofs.reaching.+goes_to.Goals as goal
 

@@ -1,8 +1,8 @@
 use Rattle.std.proofs.Common.{◌≡◌, ℕ, take}
 use Rattle.draughts_moves.specs.Capture.{without}
 use Rattle.draughts_moves.specs.Search.{jumps, prey_left}
-use Rattle.squares.specs.In.{In}
-use Rattle.pdn.specs.Reaching.{StepsTo}
+use Rattle.squares.specs.internal.In.{In}
+use Rattle.pdn.specs.internal.Reaching.{StepsTo}
 use Rattle.pdn.proofs.reaching.+goes_to.Given as goal
 
 abbrev pub invariant-loop-over : goal.invariant-loop-over

@@ -2,7 +2,7 @@ use Rattle.std.proofs.Common.{ℕ, List, sym, ◌∙◌, subst}
 use Rattle.squares.specs.DraughtsBoard.{Position}
 use Rattle.draughts_moves.specs.Capture.{without}
 use Rattle.draughts_moves.specs.declared.mover.Mover.{Mover}
-use Rattle.pdn.specs.Reaching.{GoesTo}
+use Rattle.pdn.specs.internal.Reaching.{GoesTo}
 use Rattle.pdn.proofs.PassingLemmas.{SomeFits-goes, goes-SomeFits}
 use Rattle.pdn.proofs.reaching.some_fits.Goals as goal
 

@@ -1,7 +1,7 @@
 use Rattle.std.proofs.Common.{◌+◌, List, take, sym, subst}
 use Rattle.std.proofs.lemmas.List.{take_all}
 use Rattle.squares.specs.declared.draughts.moves.DMove.{DMove}
-use Rattle.pdn.specs.Choice.{IsChoice}
+use Rattle.pdn.specs.internal.Choice.{IsChoice}
 use Rattle.pdn.specs.ReadMove.{Fits}
 use Rattle.pdn.proofs.ChoiceLemmas.{choice-skip, choice-join, choice-parts}
 use Rattle.pdn.proofs.reading.choose.Goals as goal

@@ -1,5 +1,5 @@
 use Rattle.std.proofs.Common.{take}
-use Rattle.pdn.specs.Choice.{IsChoice}
+use Rattle.pdn.specs.internal.Choice.{IsChoice}
 use Rattle.pdn.specs.ReadMove.{Fits}
 use Rattle.pdn.proofs.reading.choose.Given as goal
 

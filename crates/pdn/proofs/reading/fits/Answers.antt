@@ -1,7 +1,7 @@
 use Rattle.std.proofs.Common.{◌≡◌, ℕ, Bool, true, false, not, nat_eq, refl, sym, ap, ◌∙◌}
 use Rattle.std.specs.List.{list_any}
-use Rattle.squares.specs.DraughtsMarks.{nat_eq-same}
-use Rattle.pdn.specs.Passing.{passes}
+use Rattle.squares.specs.internal.DraughtsMarks.{nat_eq-same}
+use Rattle.pdn.specs.internal.Passing.{passes}
 use Rattle.pdn.proofs.PassingLemmas.{some_passes-Fits, Fits-some_passes}
 use Rattle.pdn.proofs.reading.fits.Goals as goal
 

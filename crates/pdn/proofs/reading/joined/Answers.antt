@@ -1,6 +1,6 @@
 use Rattle.std.proofs.Common.{refl, sym, ◌∙◌, subst}
 use Rattle.pdn.specs.declared.faults.MoveFault.TheVariants as fault
-use Rattle.pdn.specs.Choice.{Joins, Parts}
+use Rattle.pdn.specs.internal.Choice.{Joins, Parts}
 use Rattle.pdn.proofs.ChoiceLemmas.{same_move-same, same_move-itself}
 use Rattle.pdn.proofs.reading.joined.Goals as goal
 

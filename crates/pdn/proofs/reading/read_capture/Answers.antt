@@ -1,5 +1,5 @@
 use Rattle.std.proofs.Common.{subst}
-use Rattle.pdn.specs.Choice.{IsChoice}
+use Rattle.pdn.specs.internal.Choice.{IsChoice}
 use Rattle.pdn.specs.ReadMove.{Fits}
 use Rattle.pdn.proofs.ReadingLemmas.{chosen, none-chosen, choice-fault}
 use Rattle.pdn.proofs.reading.read_capture.Goals as goal

@@ -1,8 +1,9 @@
 use Rattle.std.proofs.Common.{ℕ, List, Ok, sym, ap, ◌∙◌, subst}
 use Rattle.std.specs.Prelude.{IfOk, IfErr}
 use Rattle.pdn.specs.Forms.{capture, quiet, read_form}
-use Rattle.pdn.specs.ReadForms.{form_of}
-use Rattle.pdn.specs.ReadMove.{StandsFor, IsFormFault}
+use Rattle.pdn.specs.internal.ReadForms.{form_of}
+use Rattle.pdn.specs.ReadMove.{StandsFor}
+use Rattle.pdn.specs.internal.ReadMove.{IsFormFault}
 use Rattle.pdn.proofs.ReadingLemmas.{read-form, read-fault}
 use Rattle.pdn.proofs.reading.read_move.Goals as goal
 

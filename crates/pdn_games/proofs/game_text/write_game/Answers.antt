@@ -1,7 +1,7 @@
 use Rattle.std.proofs.Common.{◌≡◌, List, [], ℕ, ◌++◌, length, append_assoc}
 use Rattle.squares.specs.DraughtsOpening.{opening}
 use Rattle.pdn_games.specs.Writing.{plies_text, end_text}
-use Rattle.pdn_games.specs.Writer.{tags_text}
+use Rattle.pdn_games.specs.internal.Writer.{tags_text}
 use Rattle.pdn_games.proofs.game_text.write_game.Goals as goal
 
 joined : (t0 t1 t2 t3 a b c : List ℕ) → t0 ≡ [] → t1 ≡ t0 ++ a → t2 ≡ t1 ++ b → t3 ≡ t2 ++ c → t3 ≡ a ++ (b ++ c)

@@ -3,7 +3,7 @@ use Rattle.squares.specs.declared.draughts.moves.DMove.{DMove}
 use Rattle.squares.specs.DraughtsOpening.{opening}
 use Rattle.draughts_draws.specs.Ends.{end_of}
 use Rattle.pdn_games.specs.Tokens.{PlacedToken}
-use Rattle.pdn_games.specs.TokenValues.{all_placed}
+use Rattle.pdn_games.specs.internal.TokenValues.{all_placed}
 use Rattle.pdn_games.specs.Reading.{score_of_result, score_by_rules, settled, score_in}
 use Rattle.pdn_games.proofs.EndingLemmas.{end-fails}
 use Rattle.pdn_games.proofs.reading.game_of.Goals as goal

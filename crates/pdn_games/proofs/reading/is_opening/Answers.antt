@@ -1,6 +1,7 @@
 use Rattle.std.proofs.Common.{sym, ap, ◌∙◌}
 use Rattle.squares.specs.DraughtsOpening.{opening}
-use Rattle.squares.specs.DraughtsSamePosition.{same_position, same_position-same, same_position-itself}
+use Rattle.squares.specs.DraughtsSamePosition.{same_position}
+use Rattle.squares.specs.internal.DraughtsSamePosition.{same_position-same, same_position-itself}
 use Rattle.pdn_games.proofs.reading.is_opening.Goals as goal
 
 pub returns : goal.returns

@@ -3,8 +3,9 @@ use Rattle.squares.specs.DraughtsOpening.{opening}
 use Rattle.squares.specs.DraughtsBoard.{Position}
 use Rattle.pdn.specs.declared.faults.FenFault.{FenFault}
 use Rattle.pdn.specs.declared.faults.FenFault.TheVariants as fault
-use Rattle.pdn.specs.ReadFen.{IsFen, HasFenFault}
-use Rattle.pdn.specs.Laws.{ReadsOnePosition}
+use Rattle.pdn.specs.ReadFen.{IsFen}
+use Rattle.pdn.specs.internal.ReadFen.{HasFenFault}
+use Rattle.pdn.specs.internal.Laws.{ReadsOnePosition}
 use Rattle.pdn_games.proofs.FenTextLemmas.{fen-utf8}
 use Rattle.pdn_games.proofs.reading.is_opening_text.Goals as goal
 

@@ -1,7 +1,7 @@
 use Rattle.std.proofs.Common.{List, length, true, sym, subst}
 use Rattle.pdn_games.specs.declared.tokens.PlacedToken.{PlacedToken}
-use Rattle.pdn_games.specs.TokenValues.{all_placed}
-use Rattle.pdn_games.specs.Replaying.{HaveForms}
+use Rattle.pdn_games.specs.internal.TokenValues.{all_placed}
+use Rattle.pdn_games.specs.internal.Replaying.{HaveForms}
 use Rattle.pdn_games.proofs.LexLemmas.{have-forms}
 use Rattle.pdn_games.proofs.reading.read_game.Goals as goal
 

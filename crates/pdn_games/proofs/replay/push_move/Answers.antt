@@ -4,9 +4,9 @@ use Rattle.squares.specs.DraughtsOpening.{opening}
 use Rattle.squares.specs.DraughtsBoard.{Position}
 use Rattle.draughts_moves.specs.Legal.{Legal, play}
 use Rattle.draughts_draws.specs.Line.{last_position}
-use Rattle.draughts_draws.specs.Counting.{Follows}
+use Rattle.draughts_draws.specs.internal.Counting.{Follows}
 use Rattle.game_history.proofs.Proved.{last_position-append}
-use Rattle.pdn_games.specs.Replaying.{fault_of}
+use Rattle.pdn_games.specs.internal.Replaying.{fault_of}
 use Rattle.pdn_games.proofs.MoveLemmas.{only-memory}
 use Rattle.pdn_games.proofs.replay.push_move.Goals as goal
 

@@ -2,10 +2,10 @@ use Rattle.std.proofs.Common.{◌≡◌, ℕ, List, [], ◌∷◌, ◌++◌, ap,
 use Rattle.squares.specs.declared.draughts.moves.DMove.{DMove}
 use Rattle.squares.specs.DraughtsOpening.{opening}
 use Rattle.pdn_games.specs.Tokens.{Token, move_by}
-use Rattle.pdn_games.specs.TokenValues.{token_of}
+use Rattle.pdn_games.specs.internal.TokenValues.{token_of}
 use Rattle.pdn_games.specs.Contents.{texts_in}
 use Rattle.pdn_games.specs.Moves.{MeanAll}
-use Rattle.pdn_games.specs.Replaying.{GrowsBy, GrowsWith}
+use Rattle.pdn_games.specs.internal.Replaying.{GrowsBy, GrowsWith}
 use Rattle.pdn_games.proofs.MoveLemmas.{mean-more, on-ok}
 use Rattle.pdn_games.proofs.replay.push_token.Goals as goal
 

@@ -2,8 +2,9 @@ use Rattle.std.proofs.Common.{ℕ, List, take, sym, subst, rules}
 use Rattle.squares.specs.DraughtsOpening.{opening}
 use Rattle.pdn_games.specs.declared.tokens.PlacedToken.{PlacedToken}
 use Rattle.pdn_games.specs.Contents.{move_texts}
-use Rattle.pdn_games.specs.Moves.{MeanAll, RefusesMoves}
-use Rattle.pdn_games.specs.TokenValues.{all_placed}
+use Rattle.pdn_games.specs.Moves.{MeanAll}
+use Rattle.pdn_games.specs.internal.Moves.{RefusesMoves}
+use Rattle.pdn_games.specs.internal.TokenValues.{all_placed}
 use Rattle.pdn_games.proofs.TextLemmas.{texts-there, refuses-there, form-there}
 use Rattle.pdn_games.proofs.replay.replay_of.Goals as goal
 

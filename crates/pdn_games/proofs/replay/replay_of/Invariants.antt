@@ -2,8 +2,8 @@ use Rattle.std.proofs.Common.{take}
 use Rattle.squares.specs.DraughtsOpening.{opening}
 use Rattle.pdn_games.specs.Contents.{move_texts}
 use Rattle.pdn_games.specs.Moves.{MeanAll}
-use Rattle.pdn_games.specs.Replaying.{IsConsistent}
-use Rattle.pdn_games.specs.TokenValues.{all_placed}
+use Rattle.pdn_games.specs.internal.Replaying.{IsConsistent}
+use Rattle.pdn_games.specs.internal.TokenValues.{all_placed}
 use Rattle.pdn_games.proofs.replay.replay_of.Given as goal
 
 pub record Replayed (IsStanding IsMeant : Type 0) : Type 0 where

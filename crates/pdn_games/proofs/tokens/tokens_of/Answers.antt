@@ -2,7 +2,7 @@ use Rattle.std.proofs.Common.{◌≡◌, ℕ, ◌-◌, ◌++◌, ◌∷◌, [], 
 use Rattle.std.proofs.Common.{append-nil, append_assoc, sym, ap, subst, ◌∙◌, arith}
 use Rattle.std.proofs.lemmas.List.{map-append}
 use Rattle.pdn_games.specs.Tokens.{PlacedToken, Lexes, TextTokens, at_end, stops, skips, takes}
-use Rattle.pdn_games.specs.TokenValues.{token_of, placed_of, all_placed}
+use Rattle.pdn_games.specs.internal.TokenValues.{token_of, placed_of, all_placed}
 use Rattle.pdn_games.proofs.tokens.tokens_of.Goals as goal
 
 pub returns-in-Ended : goal.returns-in-Ended

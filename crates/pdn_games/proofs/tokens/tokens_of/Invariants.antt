@@ -1,6 +1,6 @@
 use Rattle.std.proofs.Common.{ℕ, ◌≤◌, ◌++◌, List, Option, length}
 use Rattle.pdn_games.specs.Tokens.{PlacedToken, Lexes, TextTokens}
-use Rattle.pdn_games.specs.TokenValues.{all_placed}
+use Rattle.pdn_games.specs.internal.TokenValues.{all_placed}
 use Rattle.pdn_games.proofs.tokens.tokens_of.Given as goal
 
 abbrev pub invariant-loop-tokens : goal.invariant-loop-tokens

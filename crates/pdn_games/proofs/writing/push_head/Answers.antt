@@ -1,7 +1,7 @@
 use Rattle.std.proofs.Common.{◌≡◌, ℕ, List, [], ◌∷◌, ◌++◌, codes, append_assoc, ap, ◌∙◌}
 use Rattle.std.specs.Prelude.{string_bytes}
 use Rattle.pdn_games.specs.Writing.{tag_line, date_text, result_text}
-use Rattle.pdn_games.specs.Writer.{tags_text}
+use Rattle.pdn_games.specs.internal.Writer.{tags_text}
 use Rattle.pdn_games.proofs.writing.push_head.Goals as goal
 
 -- seven texts added one after another

@@ -1,5 +1,5 @@
 use Rattle.std.proofs.Common.{rules, ℕ, ◌-◌, ◌+◌, List, take, refl, sym, subst, arith}
-use Rattle.perft.specs.Lines.{HasLines, AddUp, AreTheMoves}
+use Rattle.perft.specs.internal.Lines.{HasLines, AddUp, AreTheMoves}
 use Rattle.perft.proofs.LinesLemmas.{after_first, AddUp-next, AddUp-all, HasLines-more, counted-lines}
 use Rattle.std.proofs.lemmas.List.Elements.{Contains-get_or}
 use Rattle.perft.proofs.count.+leaves.Goals as goal

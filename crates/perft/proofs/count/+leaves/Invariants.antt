@@ -1,5 +1,5 @@
 use Rattle.std.proofs.Common.{◌-◌, take}
-use Rattle.perft.specs.Lines.{AddUp, AreTheMoves}
+use Rattle.perft.specs.internal.Lines.{AddUp, AreTheMoves}
 use Rattle.perft.proofs.LinesLemmas.{after_first}
 use Rattle.perft.proofs.count.+leaves.Given as goal
 

@@ -2,7 +2,7 @@ use Rattle.std.proofs.Common.{rules, ℕ, ◌+◌, ◌-◌, ◌++◌, List, [], 
 use Rattle.std.proofs.KnownBytes.{Appends-nil, Appends-trans}
 use Rattle.std.proofs.lemmas.List.Elements.{Contains-get_or}
 use Rattle.std.specs.Prelude.{OnOk}
-use Rattle.perft.specs.Lines.{AreTheMoves, AreLines, HasLines, count_line, total_line}
+use Rattle.perft.specs.internal.Lines.{AreTheMoves, AreLines, HasLines, count_line, total_line}
 use Rattle.perft.proofs.LinesLemmas.{after_first, AreLines-next, AreLines-all}
 use Rattle.perft.proofs.count.print_counts.Goals as goal
 

@@ -1,6 +1,6 @@
 use Rattle.std.proofs.Common.{ℕ, ◌-◌, List, take}
 use Rattle.std.specs.Io.KnownBytes.{Appends}
-use Rattle.perft.specs.Lines.{AreTheMoves, AreLines, HasLines}
+use Rattle.perft.specs.internal.Lines.{AreTheMoves, AreLines, HasLines}
 use Rattle.perft.proofs.count.print_counts.Given as goal
 
 -- the lines of the moves so far are printed, and their counts add up

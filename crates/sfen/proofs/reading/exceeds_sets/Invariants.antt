@@ -1,5 +1,5 @@
 use Rattle.std.proofs.Common.{◌≤◌, ◌<◌, ℕ, get_or}
-use Rattle.squares.specs.ShogiSets.{in_play, set_size}
+use Rattle.squares.specs.internal.ShogiSets.{in_play, set_size}
 use Rattle.squares.specs.declared.shogi.piece.HandKind.TheVariants.{Rook}
 use Rattle.squares.proofs.Proved.{kinds}
 use Rattle.sfen.proofs.reading.exceeds_sets.Given as goal

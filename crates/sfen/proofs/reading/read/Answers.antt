@@ -1,5 +1,5 @@
 use Rattle.std.proofs.Common.{◌≡◌, true, false, refl, sym, ap, ◌∙◌, List, ℕ, subst}
-use Rattle.sfen.specs.Reading.{run, take_byte, beginning, StopsAt}
+use Rattle.sfen.specs.internal.Reading.{run, take_byte, beginning, StopsAt}
 use Rattle.sfen.proofs.OneLemmas.{stopped, unfinished, exceeding, text-of, without-kings}
 use Rattle.sfen.proofs.reading.read.Goals as goal
 

@@ -1,6 +1,6 @@
 use Rattle.std.proofs.Common.{◌≡◌, Some, take}
-use Rattle.sfen.specs.Places.{IsSane}
-use Rattle.sfen.specs.Reading.{run, take_byte, beginning}
+use Rattle.sfen.specs.internal.Places.{IsSane}
+use Rattle.sfen.specs.internal.Reading.{run, take_byte, beginning}
 use Rattle.sfen.proofs.reading.read_through.Given as goal
 
 abbrev pub invariant-loop-i : goal.invariant-loop-i

@@ -1,5 +1,5 @@
 use Rattle.std.proofs.Common.{sym, ap, subst, ◌∙◌, ℕ}
-use Rattle.sfen.specs.UsiText.{IsNoUsi}
+use Rattle.sfen.specs.internal.UsiText.{IsNoUsi}
 use Rattle.sfen.specs.UsiReading.{usi_reading, usi_reach}
 use Rattle.sfen.proofs.UsiTextLemmas.{usi_reading-sound}
 use Rattle.sfen.proofs.UsiOffsetLemmas.{no-usi}

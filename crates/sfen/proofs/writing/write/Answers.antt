@@ -1,8 +1,8 @@
 use Rattle.std.proofs.Common.{ℕ, List, ◌∷◌, ◌++◌, ap, ◌∙◌, subst, sym}
 use Rattle.std.specs.Fmt.{decimal}
 use Rattle.squares.specs.ShogiSets.{ShogiPosition}
-use Rattle.sfen.specs.SfenGrammar.{IsSfenText}
-use Rattle.sfen.specs.SfenText.{sfen_text}
+use Rattle.sfen.specs.internal.SfenGrammar.{IsSfenText}
+use Rattle.sfen.specs.internal.SfenText.{sfen_text}
 use Rattle.sfen.proofs.WrittenLemmas.{position-written, text-sound}
 use Rattle.sfen.proofs.writing.write.Goals as goal
 

@@ -2,7 +2,7 @@ use Rattle.std.proofs.Common.{◌≡◌, ℕ, List, [], ◌∷◌, ◌++◌, ap,
 use Rattle.squares.specs.ShogiBoard.{ShogiBoard}
 use Rattle.squares.specs.ShogiSets.{ShogiPosition}
 use Rattle.sfen.specs.Letters.{turn_letter}
-use Rattle.sfen.specs.SfenGrammar.{IsSfenText}
+use Rattle.sfen.specs.internal.SfenGrammar.{IsSfenText}
 use Rattle.sfen.specs.SfenText.{board_text, hands_text, position_text}
 use Rattle.sfen.proofs.WrittenLemmas.{parts-alone, position-alone}
 use Rattle.sfen.proofs.writing.write_position.Goals as goal

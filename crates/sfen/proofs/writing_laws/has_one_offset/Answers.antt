@@ -1,5 +1,5 @@
 use Rattle.std.proofs.Common.{ℕ, subst}
-use Rattle.sfen.specs.UsiText.{IsNoUsi}
+use Rattle.sfen.specs.internal.UsiText.{IsNoUsi}
 use Rattle.sfen.proofs.UsiOffsetLemmas.{no-usi, refused-here}
 use Rattle.sfen.proofs.writing_laws.has_one_offset.Goals as goal
 

@@ -1,5 +1,5 @@
 use Rattle.std.proofs.Common.{◌∙◌, ap}
-use Rattle.shogi_moves.specs.Search.{attacked}
+use Rattle.shogi_moves.specs.internal.Search.{attacked}
 use Rattle.shogi_moves.proofs.AttackLemmas.{attacked-is}
 use Rattle.shogi_moves.proofs.TruthLemmas.{holds-as}
 use Rattle.shogi_moves.proofs.attacks.attacked.Goals as goal

@@ -1,5 +1,5 @@
 use Rattle.std.proofs.Common.{◌∙◌}
-use Rattle.shogi_moves.specs.Search.{king_attacked}
+use Rattle.shogi_moves.specs.internal.Search.{king_attacked}
 use Rattle.shogi_moves.proofs.AttackLemmas.{king_attacked-is}
 use Rattle.shogi_moves.proofs.TruthLemmas.{holds-as}
 use Rattle.shogi_moves.proofs.attacks.in_check.Goals as goal

@@ -1,6 +1,6 @@
 use Rattle.std.proofs.Common.{◌≡◌, ◌-◌, ◌∙◌, ap, arith}
 use Rattle.shogi_moves.specs.Reach.{line}
-use Rattle.shogi_moves.specs.Facing.{farthest, faced, faced_along}
+use Rattle.shogi_moves.specs.internal.Facing.{farthest, faced, faced_along}
 use Rattle.shogi_moves.proofs.attacks.is_faced.Goals as goal
 
 pub returns : goal.returns

@@ -1,6 +1,6 @@
 use Rattle.std.proofs.Common.{◌≡◌, ◌-◌}
 use Rattle.shogi_moves.specs.Reach.{line}
-use Rattle.shogi_moves.specs.Facing.{farthest, faced}
+use Rattle.shogi_moves.specs.internal.Facing.{farthest, faced}
 use Rattle.shogi_moves.proofs.attacks.is_faced_from.Given as goal
 
 abbrev pub invariant-loop-distance : goal.invariant-loop-distance

@@ -2,7 +2,7 @@ use Rattle.std.proofs.Common.{◌∙◌, ap, ◌≡◌, subst, sym}
 use Rattle.std.specs.Prelude.{◌↔◌, IsOk, Err}
 use Rattle.shogi_moves.specs.Rules.{Legal, FirstBroken}
 use Rattle.shogi_moves.specs.Check.{Answer}
-use Rattle.shogi_moves.specs.Computed.{check_of}
+use Rattle.shogi_moves.specs.internal.Computed.{check_of}
 use Rattle.shogi_moves.proofs.CheckLemmas.{check_of-legal, check_of-refused}
 use Rattle.shogi_moves.proofs.checking.check.Goals as goal
 

@@ -1,5 +1,5 @@
 use Rattle.std.proofs.Common.{◌∙◌, ap}
-use Rattle.shogi_moves.specs.Computed.{has_move}
+use Rattle.shogi_moves.specs.internal.Computed.{has_move}
 use Rattle.shogi_moves.proofs.MateLemmas.{has_move-is}
 use Rattle.shogi_moves.proofs.TruthLemmas.{holds-as}
 use Rattle.shogi_moves.proofs.checking.has_move.Goals as goal

@@ -1,7 +1,7 @@
 use Rattle.std.proofs.Common.{◌&&◌, ap, sym, ◌∙◌}
 use Rattle.std.specs.Prelude.{not}
-use Rattle.shogi_moves.specs.Layouts.{position_of}
-use Rattle.shogi_moves.specs.Computed.{mates_by_pawn}
+use Rattle.shogi_moves.specs.internal.Layouts.{position_of}
+use Rattle.shogi_moves.specs.internal.Computed.{mates_by_pawn}
 use Rattle.shogi_moves.proofs.SeekLemmas.{is_legal-pseudo}
 use Rattle.shogi_moves.proofs.checking.is_legal.Goals as goal
 

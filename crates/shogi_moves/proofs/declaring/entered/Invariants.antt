@@ -1,5 +1,5 @@
 use Rattle.std.proofs.Common.{◌≡◌, ◌+◌, ◌≤◌, ◌*◌, length, sum_by}
-use Rattle.masks.specs.Words.{ascending}
+use Rattle.masks.specs.internal.Words.{ascending}
 use Rattle.shogi_moves.specs.Declaring.{entered, camp_points}
 use Rattle.shogi_moves.proofs.DeclareLemmas.{one_at, points_at}
 use Rattle.shogi_moves.proofs.declaring.entered.Given as goal

@@ -1,7 +1,8 @@
 use Rattle.std.proofs.Common.{◌≡◌, length}
 use Rattle.std.specs.List.{list_any}
-use Rattle.masks.specs.Words.{ascending}
-use Rattle.shogi_moves.specs.Declaring.{in_camp, king_entered}
+use Rattle.masks.specs.internal.Words.{ascending}
+use Rattle.shogi_moves.specs.Declaring.{in_camp}
+use Rattle.shogi_moves.specs.internal.Declaring.{king_entered}
 use Rattle.shogi_moves.proofs.declaring.king_entered.Given as goal
 
 abbrev pub invariant-loop-number : goal.invariant-loop-number

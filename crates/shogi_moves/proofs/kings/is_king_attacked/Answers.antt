@@ -1,5 +1,5 @@
 use Rattle.std.proofs.Common.{◌∙◌, true, false, sym, ap}
-use Rattle.shogi_moves.specs.Search.{attacked}
+use Rattle.shogi_moves.specs.internal.Search.{attacked}
 use Rattle.shogi_moves.proofs.KingLemmas.{kings-attacked, any-popped}
 use Rattle.shogi_moves.proofs.kings.is_king_attacked.Goals as goal
 

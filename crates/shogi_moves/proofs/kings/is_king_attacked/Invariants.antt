@@ -1,7 +1,7 @@
 use Rattle.std.proofs.Common.{◌≡◌, length}
 use Rattle.std.specs.List.{list_any}
-use Rattle.masks.specs.Words.{ascending}
-use Rattle.shogi_moves.specs.Search.{attacked, king_attacked}
+use Rattle.masks.specs.internal.Words.{ascending}
+use Rattle.shogi_moves.specs.internal.Search.{attacked, king_attacked}
 use Rattle.shogi_moves.proofs.kings.is_king_attacked.Given as goal
 
 abbrev pub invariant-loop-square : goal.invariant-loop-square

@@ -4,8 +4,9 @@ use Rattle.std.specs.List.{Contains}
 use Rattle.std.specs.List.Sorted.{IsStrictlySortedBy}
 use Rattle.squares.specs.declared.shogi.moves.SMove.{SMove}
 use Rattle.shogi_moves.specs.Rules.{Legal}
-use Rattle.shogi_moves.specs.Computed.{is_legal}
-use Rattle.shogi_moves.specs.Listing.{move_cmp, all_moves}
+use Rattle.shogi_moves.specs.internal.Computed.{is_legal}
+use Rattle.shogi_moves.specs.Listing.{move_cmp}
+use Rattle.shogi_moves.specs.internal.Listing.{all_moves}
 use Rattle.shogi_moves.proofs.MateLemmas.{moves-sorted, moves-members}
 use Rattle.shogi_moves.proofs.listing.legal.Goals as goal
 

@@ -1,7 +1,7 @@
 use Rattle.std.proofs.Common.{ap, ◌∙◌}
 use Rattle.shogi_moves.specs.declared.mating.AnyEscape.{AnyEscape}
-use Rattle.shogi_moves.specs.Layouts.{position_of}
-use Rattle.shogi_moves.specs.Computed.{escapes}
+use Rattle.shogi_moves.specs.internal.Layouts.{position_of}
+use Rattle.shogi_moves.specs.internal.Computed.{escapes}
 use Rattle.shogi_moves.proofs.SeekLemmas.{any-moves}
 use Rattle.shogi_moves.proofs.mating.has_escape.Goals as goal
 

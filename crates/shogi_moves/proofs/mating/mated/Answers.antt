@@ -1,5 +1,5 @@
 use Rattle.std.proofs.Common.{◌∙◌, ap}
-use Rattle.shogi_moves.specs.Computed.{is_mate}
+use Rattle.shogi_moves.specs.internal.Computed.{is_mate}
 use Rattle.shogi_moves.proofs.MateLemmas.{is_mate-is}
 use Rattle.shogi_moves.proofs.TruthLemmas.{holds-as}
 use Rattle.shogi_moves.proofs.mating.mated.Goals as goal

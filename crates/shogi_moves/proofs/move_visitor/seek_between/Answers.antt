@@ -1,7 +1,7 @@
 use Rattle.std.proofs.Common.{sym, ap, ◌∙◌}
-use Rattle.shogi_moves.specs.Layouts.{position_of}
+use Rattle.shogi_moves.specs.internal.Layouts.{position_of}
 use Rattle.shogi_moves.specs.Rules.{may_land}
-use Rattle.shogi_moves.specs.Listing.{steps_between}
+use Rattle.shogi_moves.specs.internal.Listing.{steps_between}
 use Rattle.shogi_moves.proofs.SeekLemmas.{steps-no_landing, sought_none, sought_both}
 use Rattle.shogi_moves.proofs.move_visitor.seek_between.Goals as goal
 

@@ -1,6 +1,6 @@
 use Rattle.std.proofs.Common.{◌∙◌, sym}
-use Rattle.shogi_moves.specs.Layouts.{position_of}
-use Rattle.shogi_moves.specs.Listing.{drops_on}
+use Rattle.shogi_moves.specs.internal.Layouts.{position_of}
+use Rattle.shogi_moves.specs.internal.Listing.{drops_on}
 use Rattle.shogi_moves.proofs.SeekLemmas.{none_passing, sought_none}
 use Rattle.shogi_moves.proofs.move_visitor.seek_drop_on.Goals as goal
 

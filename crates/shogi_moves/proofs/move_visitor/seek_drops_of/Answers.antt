@@ -1,7 +1,7 @@
 use Rattle.std.proofs.Common.{◌∙◌, sym, ap}
 use Rattle.std.specs.List.{flat_map}
-use Rattle.shogi_moves.specs.Layouts.{position_of}
-use Rattle.shogi_moves.specs.Listing.{drops_on, drops_of}
+use Rattle.shogi_moves.specs.internal.Layouts.{position_of}
+use Rattle.shogi_moves.specs.internal.Listing.{drops_on, drops_of}
 use Rattle.shogi_moves.proofs.SeekLemmas.{drops-none, sought_none}
 use Rattle.shogi_moves.proofs.move_visitor.seek_drops_of.Goals as goal
 

@@ -1,7 +1,7 @@
 use Rattle.std.proofs.Common.{◌≡◌, drop}
 use Rattle.std.specs.List.{flat_map}
-use Rattle.shogi_moves.specs.Layouts.{position_of}
-use Rattle.shogi_moves.specs.Listing.{drops_on, drops_of}
+use Rattle.shogi_moves.specs.internal.Layouts.{position_of}
+use Rattle.shogi_moves.specs.internal.Listing.{drops_on, drops_of}
 use Rattle.shogi_moves.proofs.move_visitor.seek_drops_of.Given as goal
 
 abbrev pub invariant-loop-to : goal.invariant-loop-to

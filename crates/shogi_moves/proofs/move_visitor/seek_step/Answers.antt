@@ -1,5 +1,5 @@
 use Rattle.std.proofs.Common.{◌∙◌, sym}
-use Rattle.shogi_moves.specs.Layouts.{position_of}
+use Rattle.shogi_moves.specs.internal.Layouts.{position_of}
 use Rattle.shogi_moves.proofs.SeekLemmas.{step-pseudo, none_passing, sought_none}
 use Rattle.shogi_moves.proofs.move_visitor.seek_step.Goals as goal
 

@@ -1,6 +1,6 @@
 use Rattle.std.proofs.Common.{◌∙◌, sym, ap}
-use Rattle.shogi_moves.specs.Layouts.{position_of}
-use Rattle.shogi_moves.specs.Listing.{steps_from}
+use Rattle.shogi_moves.specs.internal.Layouts.{position_of}
+use Rattle.shogi_moves.specs.internal.Listing.{steps_from}
 use Rattle.shogi_moves.proofs.SeekLemmas.{steps-own, sought_popped}
 use Rattle.shogi_moves.proofs.move_visitor.seek_steps.Goals as goal
 

@@ -1,9 +1,9 @@
 use Rattle.std.proofs.Common.{◌≡◌, true, length}
 use Rattle.std.specs.FinMap as map
-use Rattle.masks.specs.Words.{ascending}
-use Rattle.squares.specs.ShogiWords.{is_side}
-use Rattle.shogi_moves.specs.Layouts.{position_of}
-use Rattle.shogi_moves.specs.Listing.{steps_from, all_steps}
+use Rattle.masks.specs.internal.Words.{ascending}
+use Rattle.squares.specs.internal.ShogiWords.{is_side}
+use Rattle.shogi_moves.specs.internal.Layouts.{position_of}
+use Rattle.shogi_moves.specs.internal.Listing.{steps_from, all_steps}
 use Rattle.shogi_moves.proofs.SeekLemmas.{Sought}
 use Rattle.shogi_moves.proofs.move_visitor.seek_steps.Given as goal
 

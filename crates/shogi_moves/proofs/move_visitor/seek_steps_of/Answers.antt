@@ -1,6 +1,6 @@
 use Rattle.std.proofs.Common.{◌∙◌, sym, ap}
-use Rattle.shogi_moves.specs.Layouts.{position_of}
-use Rattle.shogi_moves.specs.Listing.{steps_between}
+use Rattle.shogi_moves.specs.internal.Layouts.{position_of}
+use Rattle.shogi_moves.specs.internal.Listing.{steps_between}
 use Rattle.shogi_moves.proofs.SeekLemmas.{steps-reached, sought_popped}
 use Rattle.shogi_moves.proofs.move_visitor.seek_steps_of.Goals as goal
 

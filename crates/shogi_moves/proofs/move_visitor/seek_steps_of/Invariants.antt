@@ -1,8 +1,8 @@
 use Rattle.std.proofs.Common.{◌≡◌, true, length}
-use Rattle.masks.specs.Words.{ascending}
-use Rattle.shogi_moves.specs.Layouts.{position_of}
-use Rattle.shogi_moves.specs.Search.{piece_reaches}
-use Rattle.shogi_moves.specs.Listing.{steps_between, steps_from}
+use Rattle.masks.specs.internal.Words.{ascending}
+use Rattle.shogi_moves.specs.internal.Layouts.{position_of}
+use Rattle.shogi_moves.specs.internal.Search.{piece_reaches}
+use Rattle.shogi_moves.specs.internal.Listing.{steps_between, steps_from}
 use Rattle.shogi_moves.proofs.SeekLemmas.{Sought}
 use Rattle.shogi_moves.proofs.move_visitor.seek_steps_of.Given as goal
 

@@ -1,4 +1,4 @@
-use Rattle.shogi_moves.specs.Listing.{all_moves}
+use Rattle.shogi_moves.specs.internal.Listing.{all_moves}
 use Rattle.shogi_moves.proofs.SeekLemmas.{sought_both}
 use Rattle.shogi_moves.proofs.move_visitor.visit_moves.Goals as goal
 

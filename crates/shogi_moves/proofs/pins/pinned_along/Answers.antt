@@ -1,7 +1,7 @@
 use Rattle.std.proofs.Common.{◌≡◌, ◌-◌, ◌+◌, ◌<◌, ◌∙◌, Some, inl, inr, sym, ap, arith, rules}
 use Rattle.std.specs.FinMap as map
 use Rattle.std.proofs.lemmas.Bool.{cases_eq}
-use Rattle.shogi_moves.specs.Facing.{farthest, faced_along}
+use Rattle.shogi_moves.specs.internal.Facing.{farthest, faced_along}
 use Rattle.shogi_moves.proofs.FacingLemmas.{look-edge, look-end, look-on}
 use Rattle.shogi_moves.proofs.PinLemmas.{empty-without, other-without, first-without}
 use Rattle.shogi_moves.proofs.pins.pinned_along.Goals as goal

@@ -1,7 +1,7 @@
 use Rattle.std.proofs.Common.{◌≡◌, ℕ, ◌-◌}
 use Rattle.std.specs.FinMap as map
 use Rattle.shogi_moves.specs.Reach.{line}
-use Rattle.shogi_moves.specs.Facing.{farthest, faced}
+use Rattle.shogi_moves.specs.internal.Facing.{farthest, faced}
 use Rattle.shogi_moves.proofs.pins.pinned_along.Given as goal
 
 abbrev pub invariant-loop-distance : goal.invariant-loop-distance

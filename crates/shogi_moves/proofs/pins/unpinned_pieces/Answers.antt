@@ -1,6 +1,6 @@
 use Rattle.std.proofs.Common.{◌<◌, sym, ap, ◌∙◌, arith}
 use Rattle.std.specs.FinMap as map
-use Rattle.shogi_moves.specs.Facing.{seen}
+use Rattle.shogi_moves.specs.internal.Facing.{seen}
 use Rattle.shogi_moves.proofs.FacingLemmas.{seen-attacked}
 use Rattle.shogi_moves.proofs.PinLemmas.{king_safe, nothing_in, cleared_first, cleared_more, cleared_all}
 use Rattle.shogi_moves.proofs.pins.unpinned_pieces.Goals as goal

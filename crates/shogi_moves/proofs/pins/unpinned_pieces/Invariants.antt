@@ -1,5 +1,5 @@
 use Rattle.std.proofs.Common.{length}
-use Rattle.masks.specs.Words.{ascending}
+use Rattle.masks.specs.internal.Words.{ascending}
 use Rattle.shogi_moves.proofs.PinLemmas.{Cleared}
 use Rattle.shogi_moves.proofs.pins.unpinned_pieces.Given as goal
 

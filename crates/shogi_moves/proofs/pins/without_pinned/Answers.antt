@@ -1,7 +1,7 @@
 use Rattle.std.proofs.Common.{false, refl, sym, arith}
 use Rattle.std.specs.FinMap as map
-use Rattle.shogi_moves.specs.Facing.{seen}
-use Rattle.shogi_moves.specs.Search.{all_headings}
+use Rattle.shogi_moves.specs.internal.Facing.{seen}
+use Rattle.shogi_moves.specs.internal.Search.{all_headings}
 use Rattle.shogi_moves.proofs.PinLemmas.{none_faced, one_heading_more}
 use Rattle.shogi_moves.proofs.SeekLemmas.{any_all}
 use Rattle.shogi_moves.proofs.pins.without_pinned.Goals as goal

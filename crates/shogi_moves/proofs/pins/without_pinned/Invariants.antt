@@ -2,8 +2,8 @@ use Rattle.std.proofs.Common.{◌≡◌, ℕ, true, false, take}
 use Rattle.std.specs.List.{list_any}
 use Rattle.std.specs.FinMap as map
 use Rattle.std.specs.FinSet as set
-use Rattle.shogi_moves.specs.Facing.{faced_along}
-use Rattle.shogi_moves.specs.Search.{all_headings}
+use Rattle.shogi_moves.specs.internal.Facing.{faced_along}
+use Rattle.shogi_moves.specs.internal.Search.{all_headings}
 use Rattle.shogi_moves.proofs.pins.without_pinned.Given as goal
 
 abbrev pub invariant-loop-heading : goal.invariant-loop-heading

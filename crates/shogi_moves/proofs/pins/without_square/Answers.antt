@@ -1,6 +1,6 @@
 use Rattle.std.proofs.Common.{◌≡◌, sym, ap, ◌∙◌}
 use Rattle.std.specs.FinSet as set
-use Rattle.masks.specs.Walks.{popped_kept}
+use Rattle.masks.specs.internal.Walks.{popped_kept}
 use Rattle.shogi_moves.proofs.PinLemmas.{gone_from}
 use Rattle.shogi_moves.proofs.pins.without_square.Goals as goal
 

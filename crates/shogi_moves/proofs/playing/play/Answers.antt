@@ -1,5 +1,5 @@
 use Rattle.std.proofs.Common.{◌∙◌, sym, ap, subst}
-use Rattle.squares.specs.ShogiSets.{IsShogiPosition}
+use Rattle.squares.specs.internal.ShogiSets.{IsShogiPosition}
 use Rattle.shogi_moves.specs.Rules.{board_after, hands_after}
 use Rattle.shogi_moves.proofs.PlayLemmas.{play-sound}
 use Rattle.shogi_moves.proofs.playing.play.Goals as goal

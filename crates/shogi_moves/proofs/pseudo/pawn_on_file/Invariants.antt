@@ -1,8 +1,8 @@
 use Rattle.std.proofs.Common.{◌≡◌, ◌==◌, length}
 use Rattle.std.specs.List.{list_any}
-use Rattle.masks.specs.Words.{ascending}
+use Rattle.masks.specs.internal.Words.{ascending}
 use Rattle.squares.specs.ShogiGeometry.{file_of}
-use Rattle.shogi_moves.specs.Computed.{pawn_on_file}
+use Rattle.shogi_moves.specs.internal.Computed.{pawn_on_file}
 use Rattle.shogi_moves.proofs.pseudo.pawn_on_file.Given as goal
 
 abbrev pub invariant-loop-there : goal.invariant-loop-there

@@ -1,7 +1,7 @@
 use Rattle.std.proofs.Common.{◌∙◌, ap, arith}
 use Rattle.std.specs.Ordering.{nat_cmp}
 use Rattle.std.specs.FinSet as set
-use Rattle.shogi_moves.specs.Search.{all_headings, piece_reaches}
+use Rattle.shogi_moves.specs.internal.Search.{all_headings, piece_reaches}
 use Rattle.shogi_moves.proofs.SeekLemmas.{any_more, any_all}
 use Rattle.shogi_moves.proofs.reaching.attacks_from.Goals as goal
 

@@ -2,7 +2,7 @@ use Rattle.std.proofs.Common.{◌≡◌, ℕ, take}
 use Rattle.std.specs.FinSet as set
 use Rattle.std.specs.List.{list_any}
 use Rattle.shogi_moves.specs.Reach.{line, range}
-use Rattle.shogi_moves.specs.Search.{all_headings, comes_to}
+use Rattle.shogi_moves.specs.internal.Search.{all_headings, comes_to}
 use Rattle.shogi_moves.proofs.reaching.attacks_from.Given as goal
 
 abbrev pub invariant-loop-heading : goal.invariant-loop-heading

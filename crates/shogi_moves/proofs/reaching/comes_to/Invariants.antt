@@ -1,6 +1,6 @@
 use Rattle.std.proofs.Common.{◌≡◌, ◌-◌}
 use Rattle.shogi_moves.specs.Reach.{line}
-use Rattle.shogi_moves.specs.Search.{comes_to}
+use Rattle.shogi_moves.specs.internal.Search.{comes_to}
 use Rattle.shogi_moves.proofs.reaching.comes_to.Given as goal
 
 abbrev pub invariant-loop : goal.invariant-loop

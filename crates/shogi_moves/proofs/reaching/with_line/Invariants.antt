@@ -1,7 +1,7 @@
 use Rattle.std.proofs.Common.{◌≡◌, ◌||◌, ℕ, ◌-◌}
 use Rattle.std.specs.FinSet as set
 use Rattle.shogi_moves.specs.Reach.{line}
-use Rattle.shogi_moves.specs.Search.{comes_to}
+use Rattle.shogi_moves.specs.internal.Search.{comes_to}
 use Rattle.shogi_moves.proofs.reaching.with_line.Given as goal
 
 abbrev pub invariant-loop : goal.invariant-loop

@@ -1,8 +1,9 @@
 use Rattle.std.proofs.Common.{subst, length, rules}
 use Rattle.std.proofs.lemmas.List.{take_all}
 use Rattle.game_history.proofs.Proved.{fault-of-beginning, grown}
-use Rattle.shogi_repetition.specs.Faults.{shogi_lines, IsPlayed, HasFault}
-use Rattle.shogi_repetition.specs.Counting.{Follows}
+use Rattle.shogi_repetition.specs.Faults.{shogi_lines, IsPlayed}
+use Rattle.shogi_repetition.specs.internal.Faults.{HasFault}
+use Rattle.shogi_repetition.specs.internal.Counting.{Follows}
 use Rattle.shogi_repetition.proofs.judging.judge.Goals as goal
 
 pub returns-in_err-push-clause-fault : goal.returns-in_err-push-clause-fault

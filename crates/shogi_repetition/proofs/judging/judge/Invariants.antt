@@ -1,5 +1,5 @@
 use Rattle.std.proofs.Common.{take}
-use Rattle.shogi_repetition.specs.Counting.{Follows}
+use Rattle.shogi_repetition.specs.internal.Counting.{Follows}
 use Rattle.shogi_repetition.proofs.judging.judge.Given as goal
 
 abbrev pub invariant-loop-played : goal.invariant-loop-played

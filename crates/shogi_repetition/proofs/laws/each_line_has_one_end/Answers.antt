@@ -1,6 +1,6 @@
 use Rattle.std.proofs.Common.{sym, subst}
 use Rattle.shogi_repetition.specs.Ends.{EndsSo}
-use Rattle.shogi_repetition.specs.Computed.{end_of}
+use Rattle.shogi_repetition.specs.internal.Computed.{end_of}
 use Rattle.shogi_repetition.proofs.EndLemmas.{end_of-is, one-end}
 use Rattle.shogi_repetition.proofs.laws.each_line_has_one_end.Goals as goal
 

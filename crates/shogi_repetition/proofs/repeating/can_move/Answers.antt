@@ -1,5 +1,5 @@
 use Rattle.std.specs.Cmp.{both_ways}
-use Rattle.shogi_moves.specs.Computed.{has_move}
+use Rattle.shogi_moves.specs.internal.Computed.{has_move}
 use Rattle.shogi_moves.proofs.Proved.{has_move-is}
 use Rattle.shogi_repetition.proofs.repeating.can_move.Goals as goal
 

@@ -7,8 +7,8 @@ use Rattle.club_core.specs.Answer.{game_command_of}
 use Rattle.club_requests.specs.Limits.{is_budget, is_increment}
 use Rattle.club_core.specs.Step.{game_step}
 use Rattle.club_core.specs.View.{ShowsPly}
-use Rattle.club_rows.specs.Replay.{terms_given}
-use Rattle.club_changes.specs.Steps.{IsDecidedIn}
+use Rattle.club_rows.specs.internal.Replay.{terms_given}
+use Rattle.club_changes.specs.internal.Steps.{IsDecidedIn}
 use Rattle.store_tables.proofs.Proved.{clean_before, reads_on, rows_after}
 use Rattle.store.proofs.game.act.Goals as goal
 

@@ -1,6 +1,6 @@
 use Rattle.std.proofs.Common.{ap, ◌∙◌}
 use Rattle.club_core.specs.Step.{game_step}
-use Rattle.club_core.specs.View.{concluded, settled_of}
+use Rattle.club_core.specs.internal.View.{concluded, settled_of}
 use Rattle.club_changes.proofs.Proved.{step_legal, seen_stood, seen_concluded}
 use Rattle.store_tables.proofs.Proved.{clean_before, reads_on, rows_after}
 use Rattle.store.proofs.game.counted.Goals as goal

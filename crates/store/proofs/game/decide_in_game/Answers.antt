@@ -4,7 +4,7 @@ use Rattle.club_core.specs.Answer.{game_command_of}
 use Rattle.club_core.specs.Game.{clocks_of}
 use Rattle.club_core.specs.Step.{game_step}
 use Rattle.club_core.specs.View.{terms_of}
-use Rattle.club_changes.specs.Steps.{IsDecidedIn}
+use Rattle.club_changes.specs.internal.Steps.{IsDecidedIn}
 use Rattle.club_changes.proofs.Proved.{decided_players}
 use Rattle.store.proofs.game.decide_in_game.Goals as goal
 

@@ -1,11 +1,11 @@
 use Rattle.std.proofs.Common.{◌≡◌, Some, ap, sym, ◌∙◌}
-use Rattle.club_rules.specs.Records.{recorded_of}
-use Rattle.club_core.specs.Answer.{events_of}
+use Rattle.club_rules.specs.internal.Records.{recorded_of}
+use Rattle.club_core.specs.internal.Answer.{events_of}
 use Rattle.club_core.specs.Imports.{imported}
 use Rattle.club_core.specs.State.{place, terms_at}
 use Rattle.club_laws.proofs.Proved.{imported-result}
-use Rattle.club_rows.specs.Replay.{terms_given}
-use Rattle.club_changes.specs.Steps.{score_list}
+use Rattle.club_rows.specs.internal.Replay.{terms_given}
+use Rattle.club_changes.specs.internal.Steps.{score_list}
 use Rattle.club_changes.proofs.Proved.{put_as}
 use Rattle.store.proofs.imports.added.Goals as goal
 

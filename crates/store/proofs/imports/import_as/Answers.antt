@@ -1,7 +1,7 @@
 use Rattle.std.proofs.Common.{ap, sym, ◌∙◌}
-use Rattle.club_rules.specs.Records.{recorded_of}
+use Rattle.club_rules.specs.internal.Records.{recorded_of}
 use Rattle.club_core.specs.Answer.{import_of}
-use Rattle.club_imports.specs.Importing.{importing_of}
+use Rattle.club_imports.specs.internal.Importing.{importing_of}
 use Rattle.club_changes.proofs.Proved.{by_known, officer_adds, added_in, repeated_in, refused_in}
 use Rattle.store_tables.proofs.Proved.{clean_before, reads_on, rows_after}
 use Rattle.store.proofs.imports.import_as.Goals as goal

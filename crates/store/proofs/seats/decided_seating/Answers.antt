@@ -1,7 +1,7 @@
 use Rattle.std.proofs.Common.{◌≡◌, length, refl, ap, ◌∙◌, arith}
 use Rattle.club_core.specs.State.{game_under}
 use Rattle.club_rows.specs.Club.{tables}
-use Rattle.club_changes.specs.Steps.{game_in}
+use Rattle.club_changes.specs.internal.Steps.{game_in}
 use Rattle.club_changes.proofs.Proved.{numbered_length, seat_same}
 use Rattle.club_reads.proofs.Proved.{games_begin}
 use Rattle.store_tables.proofs.Proved.{clean_before, reads_on, rows_after}

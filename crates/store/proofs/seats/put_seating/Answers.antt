@@ -1,5 +1,6 @@
 use Rattle.std.proofs.Common.{refl, ap, sym, ◌∙◌}
-use Rattle.club_core.specs.Answer.{answered, seating_of}
+use Rattle.club_core.specs.Answer.{answered}
+use Rattle.club_core.specs.internal.Answer.{seating_of}
 use Rattle.club_core.specs.State.{with_new_game}
 use Rattle.club_changes.proofs.Proved.{officer_none, seat_decided}
 use Rattle.store.proofs.seats.put_seating.Goals as goal

@@ -1,5 +1,6 @@
 use Rattle.std.proofs.Common.{map, refl, ap, sym, ◌∙◌, subst}
-use Rattle.store_tables.specs.Cells.{game_cells, score_cells}
+use Rattle.store_tables.specs.Cells.{game_cells}
+use Rattle.store_tables.specs.internal.Cells.{score_cells}
 use Rattle.store_tables.specs.Changes.{HaveSame}
 use Rattle.club_rows.specs.Club.{tables}
 use Rattle.club_reads.proofs.Proved.{games_begin}

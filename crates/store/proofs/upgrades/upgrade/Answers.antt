@@ -9,7 +9,7 @@ use Rattle.store_tables.proofs.Proved.{still_first}
 use Rattle.schema_match.specs.Shapes.{is_of_club}
 use Rattle.club_rows.specs.Club.{tables}
 use Rattle.club_rows.specs.FirstSchema.{first_tables}
-use Rattle.club_check.specs.Versions.{IsExactlyClub}
+use Rattle.club_check.specs.internal.Versions.{IsExactlyClub}
 use Rattle.store.specs.Histories.{IsReachableIn, upgraded}
 use Rattle.store.proofs.HistoryLemmas.{holds_beside, holds_first, left_at, opens_led, opens_taken}
 use Rattle.store.proofs.UpgradeLemmas.{first_history, found_widened, not_newer, upgraded_cut, upgraded_stands}

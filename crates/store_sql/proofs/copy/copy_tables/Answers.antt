@@ -1,7 +1,7 @@
 use Rattle.std.proofs.Common.{inl, inr, refl}
 use Rattle.sqlite.specs.Held.{state}
-use Rattle.store_tables.specs.Changed.{changed}
-use Rattle.store_tables.specs.Contents.{opening}
+use Rattle.store_tables.specs.internal.Changed.{changed}
+use Rattle.store_tables.specs.internal.Contents.{opening}
 use Rattle.store_tables.proofs.Proved.{exactly_same, leaves_same}
 use Rattle.store_sql.proofs.CopyLemmas.{copied}
 use Rattle.store_sql.proofs.copy.copy_tables.Goals as goal

@@ -1,8 +1,8 @@
 use Rattle.std.proofs.Common.{arith, inl, inr, rules}
 use Rattle.sqlite.specs.Held.{state}
 use Rattle.store_tables.specs.Sql.{HasCleanDisk}
-use Rattle.store_tables.specs.Contents.{opening}
-use Rattle.store_tables.specs.Changed.{changed}
+use Rattle.store_tables.specs.internal.Contents.{opening}
+use Rattle.store_tables.specs.internal.Changed.{changed}
 use Rattle.store_tables.specs.Over.{alone}
 use Rattle.store_tables.proofs.Proved.{alone_exactly, alone_takes}
 use Rattle.store_sql.proofs.CommitLemmas.{commit_survives, commits_beside, fits_alone, left_alone}

@@ -1,5 +1,5 @@
 use Rattle.std.proofs.Common.{arith, ◌∙◌}
-use Rattle.store_tables.specs.Contents.{opening}
+use Rattle.store_tables.specs.internal.Contents.{opening}
 use Rattle.store_tables.proofs.Proved.{room_takes}
 use Rattle.store_sql.proofs.creation.fill_inside.Goals as goal
 

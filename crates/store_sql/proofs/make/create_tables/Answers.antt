@@ -1,7 +1,7 @@
 use Rattle.std.proofs.Common.{arith, refl, rules, inl, inr}
 use Rattle.sqlite.specs.Held.{state}
 use Rattle.store_tables.specs.Sql.{HasCleanDisk}
-use Rattle.store_tables.specs.Contents.{opening}
+use Rattle.store_tables.specs.internal.Contents.{opening}
 use Rattle.store_tables.specs.Over.{alone}
 use Rattle.store_tables.specs.Tables.{schema_after}
 use Rattle.store_tables.proofs.Proved.{alone_exactly, alone_room, alone_takes, holds_nothing, leaves_no_club}

@@ -1,7 +1,7 @@
 use Rattle.std.proofs.Common.{pos, subst, sym, true≢false, ◌∙◌}
-use Rattle.store_tables.specs.Queries.{IsSelect}
+use Rattle.store_tables.specs.internal.Queries.{IsSelect}
 use Rattle.store_tables.specs.Tables.{club_schema, standing}
-use Rattle.store_tables.specs.Texts.{by_first_text}
+use Rattle.store_tables.specs.internal.Texts.{by_first_text}
 use Rattle.store_tables.specs.declared.names.Table.TheVariants.{EventRules}
 use Rattle.store_tables.proofs.Proved.{only_reading, placed_shown, reads_by, select_unchanged}
 use Rattle.store_sql.proofs.SelectLemmas.{keeps_content, known, select_reads, standing_alone}

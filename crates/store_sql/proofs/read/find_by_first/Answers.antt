@@ -2,9 +2,10 @@ use Rattle.std.proofs.Common.{[], ◌∷◌, rules, map}
 use Rattle.std.specs.List.Sorted.{IsSorted}
 use Rattle.sqlite.specs.Held.{state}
 use Rattle.sqlite.specs.declared.types.Value.TheVariants.{Int}
-use Rattle.store_tables.specs.Contents.{AreThose, Content}
+use Rattle.store_tables.specs.Contents.{Content}
+use Rattle.store_tables.specs.internal.Contents.{AreThose}
 use Rattle.store_tables.specs.Over.{HasRows}
-use Rattle.store_tables.specs.Queries.{by_others}
+use Rattle.store_tables.specs.internal.Queries.{by_others}
 use Rattle.store_tables.proofs.Proved.{read_nothing, read_then}
 use Rattle.store_sql.proofs.SelectLemmas.{carried}
 use Rattle.store_sql.proofs.read.find_by_first.Goals as goal

@@ -5,7 +5,7 @@ use Rattle.store_tables.specs.Contents.{Content}
 use Rattle.store_tables.specs.Over.{HasRows}
 use Rattle.store_tables.proofs.Proved.{read_nothing, read_then}
 use Rattle.store_sql.proofs.SelectLemmas.{carried, same_rows, told_rows}
-use Rattle.store_sql.specs.Read.{BeginWithPlaces}
+use Rattle.store_sql.specs.internal.Read.{BeginWithPlaces}
 use Rattle.store_sql.proofs.read.list.Goals as goal
 
 pub returns-in-Ok-clause-reads : goal.returns-in-Ok-clause-reads

@@ -1,6 +1,6 @@
 use Rattle.std.proofs.Common.{rules, ap, ◌∙◌}
 use Rattle.std.proofs.lemmas.Result.{IfOk-weaker, IfErr-weaker}
-use Rattle.store_tables.specs.Texts.{by_first_text}
+use Rattle.store_tables.specs.internal.Texts.{by_first_text}
 use Rattle.store_sql.proofs.SelectLemmas.{group_told, known, moved_to, select_reads, some_found, standing_alone}
 use Rattle.store_sql.proofs.read.show_by_first.Goals as goal
 

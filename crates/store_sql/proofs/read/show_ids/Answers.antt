@@ -1,6 +1,6 @@
 use Rattle.std.proofs.Common.{ap, ◌∙◌}
 use Rattle.std.proofs.lemmas.Result.{IfOk-weaker, IfErr-weaker}
-use Rattle.store_tables.specs.Texts.{ids_text}
+use Rattle.store_tables.specs.internal.Texts.{ids_text}
 use Rattle.store_sql.proofs.SelectLemmas.{counted, ids_number, ids_told, known, moved_to, select_reads, standing_alone}
 use Rattle.store_sql.proofs.read.show_ids.Goals as goal
 

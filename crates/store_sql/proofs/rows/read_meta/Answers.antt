@@ -1,5 +1,5 @@
 use Rattle.std.proofs.Common.{map, subst}
-use Rattle.store_tables.specs.Cells.{meta_cells}
+use Rattle.store_tables.specs.internal.Cells.{meta_cells}
 use Rattle.store_tables.specs.Changes.{HaveSame}
 use Rattle.store_sql.proofs.rows.read_meta.Goals as goal
 

@@ -2,8 +2,8 @@ use Rattle.std.proofs.Common.{arith, [], ◌∷◌, map, subst, sym, ap, ◌∙�
 use Rattle.std.proofs.lemmas.List.{take_all, take_more, map-append}
 use Rattle.sqlite.specs.Held.{state}
 use Rattle.sqlite.proofs.StateLemmas.{survives_then}
-use Rattle.store_tables.specs.Contents.{put_each}
-use Rattle.store_tables.specs.Over.{StepsBeside}
+use Rattle.store_tables.specs.internal.Contents.{put_each}
+use Rattle.store_tables.specs.internal.Over.{StepsBeside}
 use Rattle.store_tables.proofs.Proved.{one_more}
 use Rattle.store_sql.proofs.upsert.put_all.Goals as goal
 

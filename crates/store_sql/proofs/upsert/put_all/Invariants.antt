@@ -1,8 +1,8 @@
 use Rattle.std.proofs.Common.{◌≡◌, IsTrue, map, take}
 use Rattle.store_tables.specs.Sql.{HasCleanDisk, Survives}
 use Rattle.sqlite.specs.Held.{state}
-use Rattle.store_tables.specs.Contents.{put_each}
-use Rattle.store_tables.specs.Over.{StepsBeside}
+use Rattle.store_tables.specs.internal.Contents.{put_each}
+use Rattle.store_tables.specs.internal.Over.{StepsBeside}
 use Rattle.store_sql.proofs.upsert.put_all.Given as goal
 
 abbrev pub invariant-rows : goal.invariant-rows

@@ -1,14 +1,14 @@
 use Rattle.std.proofs.Common.{◌≡◌, Some, length, map, ap, ◌∙◌, arith}
 use Rattle.std.proofs.lemmas.List.{length-map}
 use Rattle.club_rules.specs.Line.{positions}
-use Rattle.club_rules.specs.Records.{recorded_of}
+use Rattle.club_rules.specs.internal.Records.{recorded_of}
 use Rattle.club_core.specs.Imports.{imported}
 use Rattle.club_core.specs.View.{IsRowOf}
 use Rattle.club_core.proofs.Proved.{are_rules}
 use Rattle.club_laws.proofs.Proved.{within-limit}
-use Rattle.club_rows.specs.Replay.{terms_given}
+use Rattle.club_rows.specs.internal.Replay.{terms_given}
 use Rattle.club_rows.specs.Seen.{rows_of_texts}
-use Rattle.club_changes.specs.AtOnce.{rows_at_once}
+use Rattle.club_changes.specs.internal.AtOnce.{rows_at_once}
 use Rattle.club_changes.proofs.MoveLemmas.{game-moves, game-seen}
 use Rattle.club_changes.proofs.RoomLemmas.{room_for}
 use Rattle.club_changes.proofs.imported.added.new_rows.Goals as goal

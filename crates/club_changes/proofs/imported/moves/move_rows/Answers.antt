@@ -1,7 +1,7 @@
 use Rattle.std.proofs.Common.{◌+◌, ◌*◌, ℕ, [], ◌∷◌, map, ap, ◌∙◌, arith}
 use Rattle.std.proofs.lemmas.List.{map-append}
 use Rattle.club_core.proofs.Proved.{are_rules}
-use Rattle.club_rows.specs.Replay.{terms_given}
+use Rattle.club_rows.specs.internal.Replay.{terms_given}
 use Rattle.store_tables.specs.Cells.{move_cells}
 use Rattle.club_changes.proofs.MoveLemmas.{move-legal, position-next, ply-next}
 use Rattle.club_changes.proofs.RoomLemmas.{spent_few, side_most}

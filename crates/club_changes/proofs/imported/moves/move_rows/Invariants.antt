@@ -1,10 +1,10 @@
 use Rattle.std.proofs.Common.{◌≡◌, ◌+◌, ◌*◌, ◌≤◌, map, take}
 use Rattle.club_rules.specs.Line.{position_after}
 use Rattle.club_core.specs.Game.{clocks_of}
-use Rattle.club_imports.specs.OneMoment.{clocks_with}
-use Rattle.club_rows.specs.Replay.{game_from, terms_given}
+use Rattle.club_imports.specs.internal.OneMoment.{clocks_with}
+use Rattle.club_rows.specs.internal.Replay.{game_from, terms_given}
 use Rattle.store_tables.specs.Cells.{move_cells}
-use Rattle.club_changes.specs.AtOnce.{entries_at_once, rows_at_once}
+use Rattle.club_changes.specs.internal.AtOnce.{entries_at_once, rows_at_once}
 use Rattle.club_changes.proofs.imported.moves.move_rows.Given as goal
 
 abbrev pub invariant-loop-i : goal.invariant-loop-i

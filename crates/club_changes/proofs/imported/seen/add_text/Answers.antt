@@ -3,7 +3,7 @@ use Rattle.std.specs.Prelude.{string_bytes}
 use Rattle.std.proofs.lemmas.List.{map-append}
 use Rattle.club_rows.specs.Seen.{times_in, seen_row}
 use Rattle.store_tables.specs.Cells.{seen_cells}
-use Rattle.club_changes.specs.MoveTexts.{bytes_of}
+use Rattle.club_changes.specs.internal.MoveTexts.{bytes_of}
 use Rattle.club_changes.proofs.SeenTexts.{drop-mapped, stood-is, seen-skipped, seen-put}
 use Rattle.club_changes.proofs.imported.seen.add_text.Goals as goal
 

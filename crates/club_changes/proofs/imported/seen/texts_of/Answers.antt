@@ -1,7 +1,7 @@
 use Rattle.std.proofs.Common.{[], ◌∷◌, ap, ◌∙◌}
 use Rattle.std.specs.Prelude.{string_bytes}
 use Rattle.std.proofs.lemmas.List.{map-append}
-use Rattle.club_changes.specs.MoveTexts.{bytes_of}
+use Rattle.club_changes.specs.internal.MoveTexts.{bytes_of}
 use Rattle.club_changes.proofs.MoveLemmas.{move-legal, position-next}
 use Rattle.club_changes.proofs.SeenTexts.{texts-next}
 use Rattle.club_changes.proofs.imported.seen.texts_of.Goals as goal

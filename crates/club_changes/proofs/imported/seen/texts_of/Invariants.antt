@@ -1,6 +1,6 @@
 use Rattle.std.proofs.Common.{◌≡◌, map, take}
 use Rattle.club_rules.specs.Line.{position_after, positions}
-use Rattle.club_changes.specs.MoveTexts.{bytes_of}
+use Rattle.club_changes.specs.internal.MoveTexts.{bytes_of}
 use Rattle.club_changes.proofs.imported.seen.texts_of.Given as goal
 
 abbrev pub invariant-loop-i : goal.invariant-loop-i

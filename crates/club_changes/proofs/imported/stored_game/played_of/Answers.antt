@@ -1,6 +1,7 @@
 use Rattle.std.proofs.Common.{ap, sym}
-use Rattle.club_rows.specs.Columns.{columns_in}
-use Rattle.club_rows.specs.Replay.{IsPlayedAs, terms_given}
+use Rattle.club_rows.specs.internal.Columns.{columns_in}
+use Rattle.club_rows.specs.Replay.{IsPlayedAs}
+use Rattle.club_rows.specs.internal.Replay.{terms_given}
 use Rattle.club_rows.proofs.Proved.{columns-are}
 use Rattle.club_changes.proofs.StoredLemmas.{rows-are, line-is}
 use Rattle.club_changes.proofs.imported.stored_game.played_of.Goals as goal

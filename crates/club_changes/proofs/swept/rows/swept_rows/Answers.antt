@@ -1,6 +1,6 @@
 use Rattle.std.proofs.Common.{◌≡◌, Err, refl, ap, sym, ◌∙◌, arith}
 use Rattle.std.proofs.lemmas.Option.{slice_get_read}
-use Rattle.club_rows.specs.Columns.{columns_in}
+use Rattle.club_rows.specs.internal.Columns.{columns_in}
 use Rattle.club_changes.specs.declared.swept.fault.SweepFault.TheVariants.{InconsistentRows}
 use Rattle.club_changes.proofs.SweptLemmas.{read_here, stays_next, ends_next, sums_few, ended_few, swept_all}
 use Rattle.club_changes.proofs.swept.rows.swept_rows.Goals as goal

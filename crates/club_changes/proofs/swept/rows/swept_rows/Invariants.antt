@@ -1,8 +1,9 @@
 use Rattle.std.proofs.Common.{◌≡◌, map}
-use Rattle.store_tables.specs.Cells.{game_cells, score_cells}
+use Rattle.store_tables.specs.Cells.{game_cells}
+use Rattle.store_tables.specs.internal.Cells.{score_cells}
 use Rattle.store_tables.specs.Changes.{HaveSame}
 use Rattle.club_rows.specs.Club.{ClubState, IsClub, tables}
-use Rattle.club_rows.specs.Pairs.{sums_at}
+use Rattle.club_rows.specs.internal.Pairs.{sums_at}
 use Rattle.club_changes.proofs.SweptLemmas.{IsSweptTo}
 use Rattle.club_changes.proofs.swept.rows.swept_rows.Given as goal
 

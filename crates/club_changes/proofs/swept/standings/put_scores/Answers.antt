@@ -2,8 +2,8 @@ use Rattle.std.proofs.Common.{◌≡◌, Option, ap, subst₂, ◌∙◌, rules}
 use Rattle.std.specs.Option.{option_map}
 use Rattle.store_tables.specs.declared.rows.ScoreRow.{ScoreRow}
 use Rattle.club_rows.specs.declared.scores.Pair.{Pair}
-use Rattle.club_rows.specs.NextScores.{AreNext, row_with}
-use Rattle.club_rows.specs.Pairs.{sums_at}
+use Rattle.club_rows.specs.internal.NextScores.{AreNext, row_with}
+use Rattle.club_rows.specs.internal.Pairs.{sums_at}
 use Rattle.club_changes.proofs.StandingLemmas.{both_put}
 use Rattle.club_changes.proofs.swept.standings.put_scores.Goals as goal
 

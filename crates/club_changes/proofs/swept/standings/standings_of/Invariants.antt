@@ -1,7 +1,7 @@
 use Rattle.std.proofs.Common.{map, take}
-use Rattle.store_tables.specs.Cells.{score_cells}
-use Rattle.club_changes.specs.Standing.{AreStanding}
-use Rattle.club_rows.specs.Pairs.{sums_at}
+use Rattle.store_tables.specs.internal.Cells.{score_cells}
+use Rattle.club_changes.specs.internal.Standing.{AreStanding}
+use Rattle.club_rows.specs.internal.Pairs.{sums_at}
 use Rattle.club_changes.proofs.swept.standings.standings_of.Given as goal
 
 abbrev pub invariant-loop-row : goal.invariant-loop-row

@@ -1,4 +1,4 @@
-use Rattle.club_games.specs.DraughtsLaws.{draughts-listed}
+use Rattle.club_games.specs.internal.DraughtsLaws.{draughts-listed}
 use Rattle.club_games.proofs.draughts.DraughtsRules.legal.Goals as goal
 
 pub returns-in-Ok : goal.returns-in-Ok

@@ -1,4 +1,4 @@
-use Rattle.club_games.specs.DraughtsLaws.{check-legal}
+use Rattle.club_games.specs.internal.DraughtsLaws.{check-legal}
 use Rattle.club_games.proofs.draughts.DraughtsRules.play.Goals as goal
 
 pub play-requires : goal.play-requires

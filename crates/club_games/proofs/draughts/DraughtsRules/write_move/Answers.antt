@@ -1,5 +1,5 @@
 use Rattle.pdn.proofs.Proved.{text-one}
-use Rattle.club_games.specs.DraughtsLaws.{check-legal}
+use Rattle.club_games.specs.internal.DraughtsLaws.{check-legal}
 use Rattle.club_games.proofs.draughts.DraughtsRules.write_move.Goals as goal
 
 pub write_move-requires : goal.write_move-requires

@@ -1,6 +1,6 @@
 use Rattle.std.proofs.Common.{rules, tests, ap, ◌∙◌}
 use Rattle.club_rules.specs.Records.{game, refused}
-use Rattle.club_games.specs.PdnComplete.{part-read, part-refused}
+use Rattle.club_games.specs.internal.PdnComplete.{part-read, part-refused}
 use Rattle.club_games.proofs.draughts_records.DraughtsRecords.read_record.Goals as goal
 
 pub returns-in-Ok : goal.returns-in-Ok

@@ -2,7 +2,7 @@ use Rattle.std.proofs.Common.{ap, sym, subst, refl, ◌∙◌, Err, IsOk}
 use Rattle.shogi_moves.proofs.Proved.{check_of-refused}
 use Rattle.club_rules.specs.MoveRefusal.{refused_by}
 use Rattle.club_games.specs.Shogi.{refusal_of}
-use Rattle.club_games.specs.ShogiLaws.{legal-check}
+use Rattle.club_games.specs.internal.ShogiLaws.{legal-check}
 use Rattle.club_games.proofs.shogi.ShogiRules.check.Goals as goal
 
 pub returns-in-Ok : goal.returns-in-Ok

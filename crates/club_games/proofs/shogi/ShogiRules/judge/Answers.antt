@@ -1,4 +1,4 @@
-use Rattle.club_games.specs.ShogiEnds.{end-computed}
+use Rattle.club_games.specs.internal.ShogiEnds.{end-computed}
 use Rattle.club_games.proofs.ShogiFaults.{no-illegal, none-after}
 use Rattle.club_games.proofs.shogi.ShogiRules.judge.Goals as goal
 

@@ -1,4 +1,4 @@
-use Rattle.club_games.specs.ShogiLaws.{shogi-listed}
+use Rattle.club_games.specs.internal.ShogiLaws.{shogi-listed}
 use Rattle.club_games.proofs.shogi.ShogiRules.legal.Goals as goal
 
 pub returns-in-Ok : goal.returns-in-Ok

@@ -1,4 +1,4 @@
-use Rattle.club_games.specs.ShogiLaws.{check-legal}
+use Rattle.club_games.specs.internal.ShogiLaws.{check-legal}
 use Rattle.club_games.proofs.shogi.ShogiRules.play.Goals as goal
 
 pub play-requires : goal.play-requires

@@ -1,6 +1,6 @@
 use Rattle.std.proofs.Common.{rules, tests, ap, ◌∙◌}
 use Rattle.club_rules.specs.Records.{refused}
-use Rattle.club_games.specs.CsaComplete.{part-read, part-refused}
+use Rattle.club_games.specs.internal.CsaComplete.{part-read, part-refused}
 use Rattle.club_games.proofs.shogi_records.ShogiRecords.read_record.Goals as goal
 
 pub returns-in-Ok : goal.returns-in-Ok

@@ -1,6 +1,6 @@
 use Rattle.std.proofs.Common.{◌∷◌, ◌++◌, [], ap, sym, subst, ◌∙◌, length}
 use Rattle.club_rules.specs.Line.{position_after}
-use Rattle.club_rows.specs.Tally.{HasStood, seen_at, stood_then}
+use Rattle.club_rows.specs.internal.Tally.{HasStood, seen_at, stood_then}
 use Rattle.club_rows.proofs.TallyLemmas.{few-seldom, last-stood, stood-then}
 use Rattle.club_rows.proofs.tally.PositionCounts.occurrences_after.Goals as goal
 

@@ -1,4 +1,4 @@
-use Rattle.http_head.specs.Intake.{HasTaken}
+use Rattle.http_head.specs.internal.Intake.{HasTaken}
 use Rattle.control_socket.proofs.listener.PendingPeer.hear.Given as goal
 
 -- what was read so far is behind what was received before

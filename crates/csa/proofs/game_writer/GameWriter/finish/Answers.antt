@@ -1,4 +1,4 @@
-use Rattle.record_writer.specs.PieceLaws.{begun-nothing}
+use Rattle.record_writer.specs.internal.PieceLaws.{begun-nothing}
 use Rattle.csa.proofs.WriterLemmas.{adds-end, begins-end}
 use Rattle.csa.proofs.game_writer.GameWriter.finish.Goals as goal
 

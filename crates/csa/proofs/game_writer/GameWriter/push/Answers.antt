@@ -1,5 +1,5 @@
 use Rattle.std.proofs.Common.{refl}
-use Rattle.record_writer.specs.PieceLaws.{begun-nothing}
+use Rattle.record_writer.specs.internal.PieceLaws.{begun-nothing}
 use Rattle.csa.proofs.WriterLemmas.{adds-entry, begins-entry}
 use Rattle.csa.proofs.game_writer.GameWriter.push.Goals as goal
 

@@ -1,5 +1,5 @@
 use Rattle.std.proofs.Common.{Ok, Err, arith}
-use Rattle.http_head.specs.HeadViews.{outline_view}
+use Rattle.http_head.specs.internal.HeadViews.{outline_view}
 use Rattle.http_head.proofs.RequestLemmas.{is_head_alone, none_found, end_found}
 use Rattle.http_head.proofs.IntakeLemmas.{from_start, scan_goes_on, long_is_decided, is_decided, is_body}
 use Rattle.http_head.proofs.intake.RequestReader.look.Goals as goal

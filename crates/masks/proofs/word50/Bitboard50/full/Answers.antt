@@ -1,7 +1,8 @@
 use Rattle.std.proofs.Common.{◌≡◌, ℕ, ◌+◌, ◌-◌, ◌<◌, true, nat_eq, ap, ◌∙◌, arith}
 use Rattle.std.specs.FinSet as set
 use Rattle.std.proofs.lemmas.Nat.Bits.{bit_at_mask_inside}
-use Rattle.masks.specs.Words.{has_bit, contains_at, set_of_word}
+use Rattle.masks.specs.Words.{has_bit, set_of_word}
+use Rattle.masks.specs.internal.Words.{contains_at}
 use Rattle.masks.proofs.word50.Bitboard50.full.Goals as goal
 
 all_bits : (k : ℕ) → k < 50 → has_bit 1125899906842623 k ≡ true

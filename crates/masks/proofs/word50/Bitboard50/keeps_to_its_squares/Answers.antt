@@ -1,6 +1,6 @@
 use Rattle.std.proofs.Common.{◌∙◌, inl, inr, sym, ap, arith}
 use Rattle.std.specs.FinSet as set
-use Rattle.masks.specs.Words.{contains_below, contains_past}
+use Rattle.masks.specs.internal.Words.{contains_below, contains_past}
 use Rattle.masks.proofs.word50.Bitboard50.keeps_to_its_squares.Goals as goal
 
 pub returns : goal.returns

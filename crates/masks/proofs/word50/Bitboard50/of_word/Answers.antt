@@ -1,6 +1,7 @@
 use Rattle.std.proofs.Common.{◌≡◌, ◌+◌, ◌∙◌, ap, arith}
 use Rattle.std.specs.FinSet as set
-use Rattle.masks.specs.Words.{contains_at, set_of_word}
+use Rattle.masks.specs.Words.{set_of_word}
+use Rattle.masks.specs.internal.Words.{contains_at}
 use Rattle.masks.proofs.word50.Bitboard50.of_word.Goals as goal
 
 pub returns : goal.returns

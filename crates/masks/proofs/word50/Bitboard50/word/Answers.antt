@@ -1,6 +1,6 @@
 use Rattle.std.proofs.Common.{◌+◌, ◌≡◌, ◌∙◌, sym, ap, arith}
 use Rattle.std.specs.FinSet as set
-use Rattle.masks.specs.Words.{contains_at}
+use Rattle.masks.specs.internal.Words.{contains_at}
 use Rattle.masks.proofs.word50.Bitboard50.word.Goals as goal
 
 pub returns : goal.returns

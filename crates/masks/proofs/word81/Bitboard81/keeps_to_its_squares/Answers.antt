@@ -1,6 +1,6 @@
 use Rattle.std.proofs.Common.{◌∙◌, sym, ap, arith}
 use Rattle.std.specs.FinSet as set
-use Rattle.masks.specs.Words.{contains_past}
+use Rattle.masks.specs.internal.Words.{contains_past}
 use Rattle.masks.proofs.word81.Bitboard81.keeps_to_its_squares.Goals as goal
 
 pub returns : goal.returns

@@ -1,7 +1,7 @@
 use Rattle.std.proofs.Common.{refl, subst}
 use Rattle.std.specs.Io.KnownBytes.{Appends}
 use Rattle.record_writer.specs.Pieces.{AppendsSome}
-use Rattle.record_writer.specs.PieceLaws.{begun-nothing}
+use Rattle.record_writer.specs.internal.PieceLaws.{begun-nothing}
 use Rattle.pdn_games.proofs.WriterLemmas.{put-alone, line_of, adds-line, begins-line}
 use Rattle.pdn_games.proofs.game_writer.GameWriter.push.Goals as goal
 

@@ -5,7 +5,7 @@ use Rattle.squares.specs.ShogiOpening.{opening}
 use Rattle.shogi_moves.specs.Rules.{Legal}
 use Rattle.shogi_repetition.specs.Line.{last_position}
 use Rattle.csa.specs.declared.head.CsaEnd.TheVariants.{Resigned, Declared}
-use Rattle.csa.specs.Writer.{HasWritten}
+use Rattle.csa.specs.internal.Writer.{HasWritten}
 use Rattle.csa.proofs.Proved.{next-legal, taken-next}
 use Rattle.scripts.proofs.rules.csa_written.write_entries.Goals as goal
 

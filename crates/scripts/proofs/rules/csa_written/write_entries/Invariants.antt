@@ -1,5 +1,5 @@
 use Rattle.std.proofs.Common.{take}
-use Rattle.csa.specs.Writer.{HasWritten}
+use Rattle.csa.specs.internal.Writer.{HasWritten}
 use Rattle.scripts.proofs.rules.csa_written.write_entries.Given as goal
 
 -- so many moves are written

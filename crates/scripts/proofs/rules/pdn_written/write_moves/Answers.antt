@@ -2,7 +2,7 @@ use Rattle.std.proofs.Common.{◌≡◌, ◌<◌, List, ℕ, length, take, sym, 
 use Rattle.std.proofs.lemmas.List.{length-take}
 use Rattle.squares.specs.declared.draughts.moves.DMove.{DMove}
 use Rattle.draughts_moves.specs.Legal.{Legal}
-use Rattle.pdn_games.specs.Writer.{HasWritten}
+use Rattle.pdn_games.specs.internal.Writer.{HasWritten}
 use Rattle.pdn_games.proofs.Proved.{next-legal, taken-next}
 use Rattle.scripts.proofs.rules.pdn_written.write_moves.Goals as goal
 

@@ -1,5 +1,5 @@
 use Rattle.std.proofs.Common.{take}
-use Rattle.pdn_games.specs.Writer.{HasWritten}
+use Rattle.pdn_games.specs.internal.Writer.{HasWritten}
 use Rattle.scripts.proofs.rules.pdn_written.write_moves.Given as goal
 
 -- so many moves are written

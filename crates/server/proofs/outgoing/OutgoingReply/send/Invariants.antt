@@ -1,5 +1,5 @@
 use Rattle.std.proofs.Common.{◌≡◌}
-use Rattle.server.specs.Outgoing.{StaysInOrder}
+use Rattle.server.specs.internal.Outgoing.{StaysInOrder}
 use Rattle.server.proofs.outgoing.OutgoingReply.send.Given as goal
 
 abbrev pub invariant-loop : goal.invariant-loop

@@ -1,5 +1,5 @@
 use Rattle.std.proofs.Common.{sym, ap, ◌∙◌}
-use Rattle.sfen.specs.Places.{next}
+use Rattle.sfen.specs.internal.Places.{next}
 use Rattle.sfen.proofs.OneLemmas.{takes}
 use Rattle.sfen.proofs.reading.Reading.take.Goals as goal
 

@@ -1,6 +1,6 @@
 use Rattle.std.proofs.Common.{sym, ◌∙◌}
-use Rattle.shogi_moves.specs.Layouts.{position_of}
-use Rattle.shogi_moves.specs.Computed.{is_legal}
+use Rattle.shogi_moves.specs.internal.Layouts.{position_of}
+use Rattle.shogi_moves.specs.internal.Computed.{is_legal}
 use Rattle.shogi_moves.proofs.SeekLemmas.{found-passing, found-failing}
 use Rattle.shogi_moves.proofs.checking.AnyLegalMoveVisitor.take.Goals as goal
 

@@ -1,5 +1,5 @@
 use Rattle.std.proofs.Common.{sym, ◌∙◌}
-use Rattle.shogi_moves.specs.Layouts.{position_of}
+use Rattle.shogi_moves.specs.internal.Layouts.{position_of}
 use Rattle.shogi_moves.proofs.PinLemmas.{exposes-nothing}
 use Rattle.shogi_moves.proofs.layout.Layout.is_checked_after.Goals as goal
 

@@ -1,7 +1,7 @@
 use Rattle.std.proofs.Common.{ap, sym, ◌∙◌}
 use Rattle.std.specs.Prelude.{not}
-use Rattle.shogi_moves.specs.Layouts.{position_of}
-use Rattle.shogi_moves.specs.Computed.{escapes}
+use Rattle.shogi_moves.specs.internal.Layouts.{position_of}
+use Rattle.shogi_moves.specs.internal.Computed.{escapes}
 use Rattle.shogi_moves.proofs.SeekLemmas.{escapes-pseudo, found-passing, found-failing}
 use Rattle.shogi_moves.proofs.mating.AnyEscapeMoveVisitor.take.Goals as goal
 

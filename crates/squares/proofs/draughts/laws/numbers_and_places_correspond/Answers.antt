@@ -1,5 +1,5 @@
 use Rattle.std.proofs.Common.{arith}
-use Rattle.squares.specs.DraughtsOnBoard.{number_at-row_of, row_of-number_at}
+use Rattle.squares.specs.internal.DraughtsOnBoard.{number_at-row_of, row_of-number_at}
 use Rattle.squares.proofs.draughts.laws.numbers_and_places_correspond.Goals as goal
 
 pub returns-clause-numbers : goal.returns-clause-numbers

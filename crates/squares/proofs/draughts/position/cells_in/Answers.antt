@@ -1,6 +1,6 @@
 use Rattle.std.proofs.Common.{◌+◌, None, arith}
 use Rattle.std.proofs.lemmas.List.FromFn.{fill_by_all}
-use Rattle.squares.specs.DraughtsKept.{cell_in, cells_in}
+use Rattle.squares.specs.internal.DraughtsKept.{cell_in, cells_in}
 use Rattle.squares.proofs.draughts.position.cells_in.Goals as goal
 
 pub returns : goal.returns

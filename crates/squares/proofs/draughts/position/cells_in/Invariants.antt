@@ -1,5 +1,5 @@
 use Rattle.std.proofs.Common.{◌≡◌, ℕ, ◌+◌, ◌<◌, None, length, get_or}
-use Rattle.squares.specs.DraughtsKept.{cell_in}
+use Rattle.squares.specs.internal.DraughtsKept.{cell_in}
 use Rattle.squares.proofs.draughts.position.cells_in.Given as goal
 
 abbrev pub invariant-loop-i : goal.invariant-loop-i

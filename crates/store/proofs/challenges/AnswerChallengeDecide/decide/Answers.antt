@@ -1,14 +1,14 @@
 use Rattle.std.proofs.Common.{ℕ, ap, sym, subst, ◌∙◌, length, string_bytes}
 use Rattle.club_core.specs.declared.challenges.Challenge.{Challenge}
-use Rattle.club_core.specs.Answer.{events_of, members_of}
+use Rattle.club_core.specs.internal.Answer.{events_of, members_of}
 use Rattle.club_core.specs.Challenges.{challenge_by, answer_step}
 use Rattle.club_core.specs.Members.{find_id}
 use Rattle.club_requests.specs.Outcome.{Outcome, map_outcome}
 use Rattle.club_core.specs.Seats.{has_member_name}
 use Rattle.club_core.specs.State.{with_answer}
 use Rattle.club_rows.specs.Club.{tables}
-use Rattle.club_changes.specs.Challenged.{AnswersTo}
-use Rattle.club_changes.specs.Steps.{IsDecided}
+use Rattle.club_changes.specs.internal.Challenged.{AnswersTo}
+use Rattle.club_changes.specs.internal.Steps.{IsDecided}
 use Rattle.club_changes.proofs.Proved.{member_answers, member_mapped}
 use Rattle.store_tables.proofs.Proved.{clean_before, reads_on, rows_after}
 use Rattle.store.proofs.challenges.AnswerChallengeDecide.decide.Goals as goal

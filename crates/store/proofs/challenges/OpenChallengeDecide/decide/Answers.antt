@@ -1,11 +1,11 @@
 use Rattle.std.proofs.Common.{ℕ, ap, sym, subst, ◌∙◌, string_bytes}
 use Rattle.club_core.specs.declared.challenges.Challenge.{Challenge}
-use Rattle.club_core.specs.Answer.{events_of, members_of}
+use Rattle.club_core.specs.internal.Answer.{events_of, members_of}
 use Rattle.club_core.specs.Challenges.{challenge_by, challenge_under, opening_step}
 use Rattle.club_requests.specs.Outcome.{Outcome, map_outcome}
 use Rattle.club_core.specs.State.{with_challenge}
 use Rattle.club_rows.specs.Club.{tables}
-use Rattle.club_changes.specs.Steps.{IsDecided}
+use Rattle.club_changes.specs.internal.Steps.{IsDecided}
 use Rattle.club_changes.proofs.Proved.{member_mapped, member_same}
 use Rattle.store_tables.proofs.Proved.{clean_before, reads_on, rows_after}
 use Rattle.store.proofs.challenges.OpenChallengeDecide.decide.Goals as goal

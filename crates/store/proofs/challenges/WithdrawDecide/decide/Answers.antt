@@ -3,7 +3,7 @@ use Rattle.club_core.specs.declared.challenges.Challenge.{Challenge}
 use Rattle.club_core.specs.Challenges.{challenge_by, challenge_under, withdrawal_step}
 use Rattle.club_requests.specs.Outcome.{Outcome, map_outcome}
 use Rattle.club_core.specs.State.{with_challenge}
-use Rattle.club_changes.specs.Steps.{IsDecided}
+use Rattle.club_changes.specs.internal.Steps.{IsDecided}
 use Rattle.club_changes.proofs.Proved.{member_mapped, member_same}
 use Rattle.store.proofs.challenges.WithdrawDecide.decide.Goals as goal
 

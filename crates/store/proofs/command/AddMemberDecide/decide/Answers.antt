@@ -1,5 +1,5 @@
 use Rattle.std.proofs.Common.{ap, ◌∙◌}
-use Rattle.club_core.specs.Answer.{members_of}
+use Rattle.club_core.specs.internal.Answer.{members_of}
 use Rattle.store.proofs.command.AddMemberDecide.decide.Goals as goal
 
 pub returns-clause-step : goal.returns-clause-step

@@ -1,5 +1,6 @@
 use Rattle.std.proofs.Common.{◌≡◌, ◌∷◌, ℕ, Option, Some, None, length, length-set, refl, arith, ap, subst}
-use Rattle.squares.specs.DraughtsSets.{ascending, PopsSquare}
+use Rattle.squares.specs.DraughtsSets.{ascending}
+use Rattle.squares.specs.internal.DraughtsSets.{PopsSquare}
 use Rattle.squares.proofs.DraughtsPops.{ascending-fits, popped-write, popped-end}
 use Rattle.squares.proofs.draughts.numbers.Numbers.from_set.Goals as goal
 

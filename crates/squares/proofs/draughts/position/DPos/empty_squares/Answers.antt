@@ -5,7 +5,7 @@ use Rattle.std.specs.FinSet as set
 use Rattle.std.specs.Prelude.{is_none}
 use Rattle.masks.specs.Words.{Numbers}
 use Rattle.squares.specs.DraughtsBoard.{Position, board_of}
-use Rattle.squares.specs.DraughtsKept.{cells_in}
+use Rattle.squares.specs.internal.DraughtsKept.{cells_in}
 use Rattle.squares.proofs.DraughtsKept.{neither_side}
 use Rattle.squares.proofs.draughts.position.DPos.empty_squares.Goals as goal
 

@@ -2,8 +2,8 @@ use Rattle.std.proofs.Common.{◌≡◌, ◌-◌, None, inl, inr, arith, ap, sub
 use Rattle.std.specs.FinMap.{get}
 use Rattle.std.proofs.lemmas.List.{get_or_past}
 use Rattle.squares.specs.DraughtsBoard.{Position, board_of}
-use Rattle.squares.specs.DraughtsCells.{get-board_of, get-board_of-zero}
-use Rattle.squares.specs.DraughtsKept.{cells_in}
+use Rattle.squares.specs.internal.DraughtsCells.{get-board_of, get-board_of-zero}
+use Rattle.squares.specs.internal.DraughtsKept.{cells_in}
 use Rattle.squares.proofs.draughts.position.DPos.keeps_to_its_squares.Goals as goal
 
 pub returns : goal.returns

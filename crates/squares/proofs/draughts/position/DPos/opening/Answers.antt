@@ -5,10 +5,11 @@ use Rattle.std.proofs.lemmas.List.FromFn.{fill_by_all}
 use Rattle.masks.specs.Words.{Numbers}
 use Rattle.squares.specs.declared.draughts.piece.DPiece.{DPiece}
 use Rattle.squares.specs.declared.sides.Side.TheVariants.{First, Second}
-use Rattle.squares.specs.DraughtsBoard.{Position, board_of, is_of}
-use Rattle.squares.specs.DraughtsKept.{Marks, KeepsCells}
+use Rattle.squares.specs.DraughtsBoard.{Position, board_of}
+use Rattle.squares.specs.internal.DraughtsBoard.{is_of}
+use Rattle.squares.specs.internal.DraughtsKept.{Marks, KeepsCells}
 use Rattle.squares.specs.DraughtsOpening.{opening_piece, opening}
-use Rattle.squares.specs.DraughtsCells.{get-board_of}
+use Rattle.squares.specs.internal.DraughtsCells.{get-board_of}
 use Rattle.squares.proofs.DraughtsKept.{no_kings, cells_from, kept_from}
 use Rattle.squares.proofs.draughts.position.DPos.opening.Goals as goal
 

@@ -1,6 +1,6 @@
 use Rattle.std.proofs.Common.{◌≡◌, ◌≤◌, ap, sym, ◌∙◌, arith, ◌-◌}
 use Rattle.std.specs.FinMap.{get}
-use Rattle.squares.specs.DraughtsKept.{cell_in}
+use Rattle.squares.specs.internal.DraughtsKept.{cell_in}
 use Rattle.squares.proofs.DraughtsKept.{cell_read}
 use Rattle.squares.proofs.draughts.position.DPos.piece_at.Goals as goal
 

@@ -1,8 +1,8 @@
 use Rattle.std.proofs.Common.{◌≡◌, ◌≤◌, ap, ◌∙◌, rules}
 use Rattle.std.specs.FinMap.{insert}
 use Rattle.squares.specs.DraughtsBoard.{Position}
-use Rattle.squares.specs.DraughtsGeometry.{OnBoard}
-use Rattle.squares.specs.DraughtsKept.{noted}
+use Rattle.squares.specs.internal.DraughtsGeometry.{OnBoard}
+use Rattle.squares.specs.internal.DraughtsKept.{noted}
 use Rattle.squares.proofs.DraughtsKept.{kept_put, board_put}
 use Rattle.squares.proofs.draughts.position.DPos.put.Goals as goal
 

@@ -5,11 +5,13 @@ use denote.Enum.Bare.{sameb}
 use Rattle.squares.specs.contracts.sides.Side.{the_type}
 use Rattle.squares.specs.declared.sides.Side.{Side}
 use Rattle.squares.specs.declared.sides.Side.TheVariants.{First, Second}
-use Rattle.squares.specs.Sides.{same_side, same_side-same, same_side-itself}
+use Rattle.squares.specs.Sides.{same_side}
+use Rattle.squares.specs.internal.Sides.{same_side-same, same_side-itself}
 use Rattle.squares.specs.DraughtsBoard.{Position, board_of}
-use Rattle.squares.specs.DraughtsKept.{cells_in}
+use Rattle.squares.specs.internal.DraughtsKept.{cells_in}
 use Rattle.squares.proofs.DraughtsKept.{same_first, same_second, same_kings}
-use Rattle.squares.specs.DraughtsSamePosition.{same_position, same_position-same, same_position-itself}
+use Rattle.squares.specs.DraughtsSamePosition.{same_position}
+use Rattle.squares.specs.internal.DraughtsSamePosition.{same_position-same, same_position-itself}
 use Rattle.squares.proofs.draughts.position.DPosPartialEq.eq.Goals as goal
 
 turns : (a b : Side) → sameb the_type a b ≡ same_side a b

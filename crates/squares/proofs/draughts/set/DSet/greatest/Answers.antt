@@ -1,5 +1,5 @@
 use Rattle.std.proofs.Common.{Some, None, sym, subst}
-use Rattle.masks.specs.Words.{IsGreatest}
+use Rattle.masks.specs.internal.Words.{IsGreatest}
 use Rattle.squares.specs.DraughtsSets.{Squares}
 use Rattle.squares.proofs.DraughtsPops.{some-is}
 use Rattle.squares.proofs.DraughtsLines.{contained-on}

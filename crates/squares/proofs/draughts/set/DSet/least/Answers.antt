@@ -1,5 +1,5 @@
 use Rattle.std.proofs.Common.{Some, None, sym, subst}
-use Rattle.masks.specs.Words.{IsLeast}
+use Rattle.masks.specs.internal.Words.{IsLeast}
 use Rattle.squares.specs.DraughtsSets.{Squares}
 use Rattle.squares.proofs.DraughtsPops.{some-is}
 use Rattle.squares.proofs.DraughtsLines.{contained-on}

@@ -1,5 +1,5 @@
 use Rattle.std.proofs.Common.{ℕ, Option, Some, None, refl, subst, arith}
-use Rattle.masks.specs.Words.{Pops}
+use Rattle.masks.specs.internal.Words.{Pops}
 use Rattle.squares.specs.DraughtsSets.{Squares}
 use Rattle.squares.proofs.DraughtsPops.{pops-none, pops-some, some-is}
 use Rattle.squares.proofs.draughts.set.DSet.pop.Goals as goal

@@ -1,7 +1,7 @@
 use Rattle.std.proofs.Common.{◌≡◌, ◌∙◌, true, sym, subst}
 use Rattle.std.specs.Cmp.{both_ways}
 use Rattle.squares.specs.DraughtsSets.{Squares, same_squares}
-use Rattle.squares.specs.DraughtsSameSquares.{same_squares-same, same_squares-itself}
+use Rattle.squares.specs.internal.DraughtsSameSquares.{same_squares-same, same_squares-itself}
 use Rattle.squares.proofs.draughts.set.DSetPartialEq.eq.Goals as goal
 
 pub returns : goal.returns

@@ -1,8 +1,8 @@
 use Rattle.std.proofs.Common.{◌≡◌, ◌+◌, ◌∙◌, rules}
 use Rattle.std.specs.List.{slice_index}
 use Rattle.squares.specs.declared.draughts.square.TheConstants.{NEIGHBORS}
-use Rattle.squares.specs.DraughtsGeometry.{OnBoard}
-use Rattle.squares.specs.DraughtsTable.{place_of}
+use Rattle.squares.specs.internal.DraughtsGeometry.{OnBoard}
+use Rattle.squares.specs.internal.DraughtsTable.{place_of}
 use Rattle.squares.proofs.DraughtsTables.{no_entry, some_entry}
 use Rattle.squares.proofs.draughts.square.Dsq.neighbor.Goals as goal
 

@@ -1,5 +1,5 @@
 use Rattle.std.proofs.Common.{sym, ◌∙◌}
-use Rattle.squares.specs.DraughtsOnBoard.{step-neighbor}
+use Rattle.squares.specs.internal.DraughtsOnBoard.{step-neighbor}
 use Rattle.squares.proofs.draughts.square.Dsq.step.Goals as goal
 
 pub returns : goal.returns

@@ -1,5 +1,5 @@
 use Rattle.std.proofs.Common.{sym, ◌∙◌}
-use Rattle.squares.specs.ShogiOrder.{board_cmp}
+use Rattle.squares.specs.internal.ShogiOrder.{board_cmp}
 use Rattle.squares.proofs.ShogiOrdered.{board_cmp-cells}
 use Rattle.squares.proofs.shogi.board.SBoard.compare.Goals as goal
 

@@ -1,6 +1,6 @@
 use Rattle.std.proofs.Common.{ap, sym, ◌∙◌}
 use Rattle.squares.specs.ShogiBoard.{ShogiBoard}
-use Rattle.squares.specs.ShogiSets.{count_on, holds_kind}
+use Rattle.squares.specs.internal.ShogiSets.{count_on, holds_kind}
 use Rattle.squares.proofs.ShogiCounts.{count_on-cells}
 use Rattle.squares.proofs.shogi.board.SBoard.count_kind.Goals as goal
 

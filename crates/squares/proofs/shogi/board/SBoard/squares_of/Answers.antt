@@ -3,7 +3,7 @@ use Rattle.std.specs.Cmp.{nat_cmp_total}
 use Rattle.std.specs.FinMap.{get}
 use Rattle.std.specs.FinSet as set
 use Rattle.squares.specs.ShogiBoard.{ShogiBoard}
-use Rattle.squares.specs.ShogiWords.{squares_at, is_side, is_role}
+use Rattle.squares.specs.internal.ShogiWords.{squares_at, is_side, is_role}
 use Rattle.squares.proofs.ShogiKept.{holds-both}
 use Rattle.squares.proofs.shogi.board.SBoard.squares_of.Goals as goal
 

@@ -9,7 +9,8 @@ use Rattle.squares.specs.contracts.sides.Side as side
 use Rattle.squares.specs.contracts.shogi.piece.Role as role
 use Rattle.squares.specs.declared.shogi.piece.SPiece.{SPiece}
 use Rattle.squares.specs.ShogiBoard.{ShogiBoard, shogi_board_of}
-use Rattle.squares.specs.ShogiSamePosition.{same_shogi_board, same_shogi_board-same, same_shogi_board-itself}
+use Rattle.squares.specs.ShogiSamePosition.{same_shogi_board}
+use Rattle.squares.specs.internal.ShogiSamePosition.{same_shogi_board-same, same_shogi_board-itself}
 use Rattle.squares.proofs.ShogiCells.{get-shogi_board_of}
 use Rattle.squares.proofs.shogi.board.SBoardPartialEq.eq.Goals as goal
 

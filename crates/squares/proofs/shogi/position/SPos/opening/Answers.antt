@@ -1,5 +1,5 @@
 use Rattle.std.proofs.Common.{sym, subst}
-use Rattle.squares.specs.ShogiSets.{IsShogiPosition}
+use Rattle.squares.specs.internal.ShogiSets.{IsShogiPosition}
 use Rattle.squares.specs.ShogiOpening.{opening}
 use Rattle.squares.proofs.ShogiOpened.{opening-IsShogiPosition, opening-parts}
 use Rattle.squares.proofs.shogi.position.SPos.opening.Goals as goal

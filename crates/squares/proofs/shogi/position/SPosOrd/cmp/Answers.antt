@@ -2,7 +2,7 @@ use Rattle.std.proofs.Common.{◌≡◌, sym, ap, ◌∙◌}
 use Rattle.std.specs.Ordering.{ordering_then}
 use Rattle.std.specs.declared.cmp.Ordering.{Ordering}
 use Rattle.squares.specs.ShogiSets.{ShogiPosition}
-use Rattle.squares.specs.ShogiOrder.{side_cmp, hands_cmp, board_cmp, position_cmp}
+use Rattle.squares.specs.internal.ShogiOrder.{side_cmp, hands_cmp, board_cmp, position_cmp}
 use Rattle.squares.proofs.shogi.position.SPosOrd.cmp.Goals as goal
 
 -- the order by turn and hands, and then by the board

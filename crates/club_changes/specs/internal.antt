@@ -1,0 +1,14 @@
+pub mod AtOnce
+pub mod Challenged
+pub mod Ended
+pub mod Faults
+pub mod Importing
+pub mod Late
+pub mod MoveTexts
+pub mod NewGames
+pub mod Standing
+pub mod Steps
+pub mod Stored
+pub mod SweepFaults
+pub mod Swept
+pub mod Whole

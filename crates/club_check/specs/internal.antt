@@ -1,0 +1,9 @@
+pub mod Examined
+pub mod Faults
+pub mod KnownGames
+pub mod Places
+pub mod ReasonIsRight
+pub mod Refused
+pub mod RightMoves
+pub mod RightTables
+pub mod Versions

@@ -1,0 +1,4 @@
+pub mod Board
+pub mod Rounds
+pub mod ShownViews
+pub mod SummaryViews

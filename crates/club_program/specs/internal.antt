@@ -1,0 +1,2 @@
+pub mod ByteOrderMark
+pub mod CommandLine

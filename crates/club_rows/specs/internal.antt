@@ -1,0 +1,11 @@
+pub mod ChallengeRows
+pub mod Columns
+pub mod LegalRows
+pub mod Made
+pub mod MayStand
+pub mod NextScores
+pub mod Pairs
+pub mod Replay
+pub mod RowView
+pub mod Seen
+pub mod Tally

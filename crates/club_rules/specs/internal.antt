@@ -1,0 +1,4 @@
+pub mod Laws
+pub mod MoveRefusal
+pub mod RecordRefusal
+pub mod Records

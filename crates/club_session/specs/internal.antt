@@ -1,0 +1,6 @@
+pub mod Acknowledged
+pub mod CacheSize
+pub mod Faults
+pub mod Served
+pub mod ToldFault
+pub mod Turns

@@ -1,0 +1,9 @@
+pub mod Answers
+pub mod Asking
+pub mod Holding
+pub mod Modes
+pub mod Peers
+pub mod Reading
+pub mod Received
+pub mod Said
+pub mod Wishes

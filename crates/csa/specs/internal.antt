@@ -1,0 +1,11 @@
+pub mod BackLaws
+pub mod Causes
+pub mod FaultText
+pub mod Lines
+pub mod Reading
+pub mod ReadingLaws
+pub mod Records
+pub mod Replaying
+pub mod Replays
+pub mod Writer
+pub mod WrittenGame

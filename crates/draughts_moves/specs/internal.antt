@@ -1,0 +1,9 @@
+pub mod Capture
+pub mod Check
+pub mod Counting
+pub mod Found
+pub mod Laws
+pub mod Listing
+pub mod Refusal
+pub mod Routes
+pub mod Search

@@ -1,0 +1,3 @@
+pub mod HeadViews
+pub mod Intake
+pub mod RequestViews

@@ -1,0 +1,2 @@
+pub mod Fide
+pub mod Laws

@@ -1,0 +1,16 @@
+pub mod Beginnings
+pub mod Choice
+pub mod FenBeginnings
+pub mod FenGrammar
+pub mod FenText
+pub mod FenValues
+pub mod Forms
+pub mod Grammar
+pub mod Laws
+pub mod MoveValue
+pub mod Passing
+pub mod Reaching
+pub mod ReadFen
+pub mod ReadForms
+pub mod ReadMove
+pub mod Subsequence

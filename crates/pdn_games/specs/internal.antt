@@ -1,0 +1,13 @@
+pub mod BackLaws
+pub mod Causes
+pub mod FaultText
+pub mod Longest
+pub mod Moves
+pub mod Reading
+pub mod ReadingLaws
+pub mod Replaying
+pub mod SkipGrammar
+pub mod TagGrammar
+pub mod TokenFronts
+pub mod TokenValues
+pub mod Writer

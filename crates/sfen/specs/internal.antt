@@ -1,0 +1,9 @@
+pub mod FaultText
+pub mod Places
+pub mod Reading
+pub mod ReadingLaws
+pub mod SfenGrammar
+pub mod SfenText
+pub mod Signs
+pub mod UsiText
+pub mod WritingLaws

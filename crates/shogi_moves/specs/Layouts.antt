@@ -1,6 +1,0 @@
--- The position of a layout: its board, hands and side to move.
-use Rattle.squares.specs.ShogiSets.{ShogiPosition}
-use Rattle.shogi_moves.specs.declared.layout.Layout.{Layout}
-
-abbrev pub position_of : Layout → ShogiPosition
-position_of layout = record { board = layout.board; hands = layout.hands; turn = layout.turn }

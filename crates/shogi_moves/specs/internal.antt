@@ -1,0 +1,12 @@
+pub mod Computed
+pub mod Declaring
+pub mod Facing
+pub mod Kings
+pub mod Laws
+pub mod Layouts
+pub mod Listing
+pub mod Pins
+pub mod RuleTexts
+pub mod Search
+pub mod Seeking
+pub mod Steps

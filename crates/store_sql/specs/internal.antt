@@ -1,0 +1,4 @@
+pub mod Copies
+pub mod Filled
+pub mod Read
+pub mod Widened

@@ -1,0 +1,16 @@
+pub mod Cells
+pub mod Changed
+pub mod Changes
+pub mod Club
+pub mod Content
+pub mod Contents
+pub mod Names
+pub mod Over
+pub mod Placed
+pub mod Put
+pub mod Queries
+pub mod Reading
+pub mod Room
+pub mod Rows
+pub mod Tables
+pub mod Texts
