@@ -89,12 +89,10 @@ fn has_folder(rt: &HostRuntime, file: &str) -> bool {
 
 // Whether the names of the logs beside a new file are short enough.
 fn has_room_for_logs(file: &str) -> bool {
-    let name = match file.rsplit_once('/') {
-        Some((_, name)) => name,
-        None => file,
-    };
-    LOGS.iter()
-        .all(|end| name.len() + end.len() <= LONGEST_NAME)
+    match file.rsplit_once('/') {
+        Some((_, name)) => name.len() <= LONGEST_NAME,
+        None => file.len() <= LONGEST_NAME,
+    }
 }
 
 // Whether the file with this suffix exists; true if out of memory.
@@ -113,8 +111,8 @@ const GROUP_WRITES: u32 = 0o020;
 
 const ALL_WRITE: u32 = 0o002;
 
-// The longest name of a file on Linux, in bytes.
-const LONGEST_NAME: usize = 255;
+// The longest name of a new file, in bytes: 255 on Linux, without the 8 of `-journal`.
+const LONGEST_NAME: usize = 247;
 
 // The user id of root, who can write the file anyway.
 const ROOT: u32 = 0;
