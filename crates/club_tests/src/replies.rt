@@ -354,7 +354,8 @@ fn the_page_comes_all_the_same(rt: HostRuntime) {
     let posted = b"POST /play HTTP/1.0\r\nContent-Length: 0\r\n\r\n".as_slice();
     let head =
         "HTTP/1.1 405 Method Not Allowed\r\nContent-Type: application/json\r\nContent-Length: 33\r\n\
-        Connection: close\r\nAllow: GET\r\n\r\n";
+        Connection: close\r\nAllow: GET\r\nCache-Control: no-store\r\n\
+        X-Content-Type-Options: nosniff\r\n\r\n";
     is_answered(
         &rt,
         &mut closed,
