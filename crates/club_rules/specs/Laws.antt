@@ -8,7 +8,6 @@ use Rattle.club_rules.specs.Line.{FirstStands}
 
 -- StandsFor: the text denotes the position
 module _ {P : Type 0} (StandsFor : List ℕ → P → Type 0) where
-
   -- a text denotes at most one position
   abbrev pub StandsForOne : Type 0
   StandsForOne = (text : List ℕ) (p q : P) → StandsFor text p → StandsFor text q → p ≡ q

@@ -6,7 +6,6 @@ use Rattle.game_history.specs.Line.{position_after}
 use Rattle.game_history.specs.Faults.{LineRules, IsPlayed}
 
 module _ {P M E C : Type 0} (rules : LineRules P M E C) where
-
   -- The fault of the first ply that breaks the rules; plies count from 1. It is `AfterEnd` if the game had ended before
   -- the ply, whatever the move is, otherwise `Illegal`. Nothing is said about when memory runs out.
   abbrev pub HasFault : P → List M → LineFault C → Type 0
