@@ -166,8 +166,17 @@ def build_aloud():
     return 0 if is_built else 70
 
 
+def take_earlier():
+    """Takes the program of release/, which is of other sources, where there is no kit to build that of these."""
+    put(lzma.decompress(bytes_of(f"{RELEASE}.xz")), *origin_of(RELEASE))
+    say("note: release/ has the program of earlier sources, which was taken; the Rattle kit builds that of these")
+    return 0
+
+
 def take_or_build():
     program = released()
+    if program is None and os.path.isfile(f"{RELEASE}.xz") and shutil.which("rt") is None:
+        return take_earlier()
     if program is None:
         return build_aloud()
     keep(program, origin_of(RELEASE)[1])
