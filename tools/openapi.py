@@ -127,6 +127,12 @@ def reply_object(description, **members):
             "additionalProperties": False}
 
 
+def start_object(description, absent, **members):
+    """A body with these members and without others, which are those of other starts."""
+    found = body_object(description, **members)
+    return found | {"properties": found["properties"] | {it: {"description": "Absent.", "not": {}} for it in absent}}
+
+
 def body_object(description, **members):
     """An object that has at least these members; the server ignores others."""
     return {"type": "object", "description": f"{description} The server ignores other members; of a repeated one the "
@@ -145,6 +151,7 @@ LEFT = array(integer(0, LARGEST_LEFT, "Seconds."), 2, "The seconds that First an
 CHALLENGE_NUMBER = integer(1, 9999, "The challenger's number of the challenge.")
 GAME_ID = schema("GameId")
 NAME = schema("Name")
+TRIED = array(text("A move in any text that docs/formats.md allows.", maxLength=200), 64, "The moves to try, in order.")
 
 
 def listed_challenge(state, game):
@@ -223,6 +230,19 @@ SCHEMAS = {
         second=with_note("Name", "The member who plays Second."),
         turn=or_null(NAME, "The member who is to move; null if the game has ended.")),
     "EventGames": reply_object("The games of an event.", games=array(schema("EventGame"), 5000, "The games by id.")),
+    "Standing": reply_object(
+        "A member with a game in the event.",
+        draws=integer(0, 5000, "The draws."), games=integer(0, 5000, "The ended games."),
+        losses=integer(0, 5000, "The losses."), member=with_note("Name", "The member."),
+        place=integer(1, 200, "The place: by points, wins, Sonneborn-Berger score, then the order of members."),
+        points=integer(0, 10_000, "The points: 2 for a win, 1 for a draw."),
+        running=integer(0, 5000, "The running games."),
+        sonneborn_berger=integer(0, 100_000_000, "The Sonneborn-Berger score: the sum, over the opponents, of the points "
+                                 "scored against the opponent times the opponent's points."),
+        wins=integer(0, 5000, "The wins.")),
+    "Standings": reply_object(
+        "The standings of an event.", event=with_note("Name", "The event's name."), kind=schema("Kind"),
+        standings=array(schema("Standing"), 200, "The members with a game in the event, by place.")),
     "OpenChallenge": listed_challenge("open", {"type": "null", "description": "An open challenge has no game."}),
     "AcceptedChallenge": listed_challenge("accepted", with_note("GameId", "The game that the challenge started.")),
     "RefusedChallenge": listed_challenge("refused", {"type": "null", "description": "A refused challenge has no game."}),
@@ -272,6 +292,21 @@ SCHEMAS = {
         "The events, and the members to challenge.",
         events=array(schema("Event"), 50, "All events by id."),
         members=array(NAME, 199, "All other members by id.")),
+    "AnalysisBody": {
+        "description": "Moves to try, by a game and the plies of it that are played before them, from a position, or, with "
+                       "neither, from the initial position.",
+        "anyOf": [
+            start_object("From the initial position.", ("game", "ply", "position"), moves=TRIED),
+            start_object("From a position.", ("game", "ply"), moves=TRIED, position=with_note(
+                "Position", "The position as the club writes it.")),
+            start_object("In a game.", ("position",), game=GAME_ID, moves=TRIED,
+                         ply=integer(0, 600, "How many of its plies are played."))]},
+    "Analysis": reply_object(
+        "The position after the moves that were tried.",
+        end=or_null(schema("RuleEnd"), "The end of the line by the rules."),
+        legal=array(schema("MoveText"), 1000, "The legal moves in the order of the rules; none if the line has an end."),
+        moves=array(schema("MoveText"), 64, "The moves that were tried, as the club writes them."),
+        position=schema("Position")),
     "MoveBody": body_object("A move.", move=text(
         "The move in any text that docs/formats.md allows, at most 200 bytes.", maxLength=200)),
     "Moved": reply_object(
@@ -329,13 +364,14 @@ HEADERS = {
     "Content-Security-Policy": ("The policy of the members' page.", {"type": "string", "pattern": "^default-src 'none';"}),
     "Cache-Control": ("The reply may not be stored.", {"const": "no-store"}),
     "X-Content-Type-Options": ("The content type may not be guessed.", {"const": "nosniff"}),
-    "Cache-Control-If-Found": ("The reply may not be stored; without it for 82 NoRoute.", {"const": "no-store"}),
-    "X-Content-Type-Options-If-Found": ("The content type may not be guessed; without it for 82 NoRoute.",
+    "Cache-Control-If-Found": ("The reply may not be stored; without it if no route was found.", {"const": "no-store"}),
+    "X-Content-Type-Options-If-Found": ("The content type may not be guessed; without it if no route was found.",
                                         {"const": "nosniff"}),
 }
 # The paths whose replies have the fields about caching, unless the head was refused.
-NO_STORE = ("/play", "/games/{id}/clock", "/games/{id}/record", "/games/{id}/page", "/events/{name}/games", "/me",
-            "/me/ended", "/me/events")
+ANALYSES = "/analysis/draughts", "/analysis/shogi"
+NO_STORE = ("/play", "/games/{id}/clock", "/games/{id}/record", "/games/{id}/page", "/events/{name}/games",
+            "/events/{name}/standings", "/me", "/me/ended", "/me/events", *ANALYSES)
 REFUSED_HEAD = 400, 411, 413, 431, 501
 
 MOVE_REFUSALS = [55, 56, 57, 58, 59, 60, 65, 10, 11, 12, 13, 14, 15, 16, 17, 18, 19, 20, 21, 30]
@@ -354,6 +390,12 @@ ROUTES = [
      PLAIN, None, {53: None}),
     ("get", "/games/{id}/page", "getGamePage", "Returns a game, its clock and its legal moves.", "games", "GamePage", JSON,
      None, {53: None}),
+    *(("post", f"/analysis/{kind}", f"analyse{kind.title()}", f"Tries moves of {kind}. Nothing is stored.", "analysis",
+       "Analysis", JSON, "AnalysisBody",
+       {53: "No game of this kind has this id.", 65: "There are more than 64 moves, a text has more than 200 bytes, or the "
+        "game has fewer plies."} | dict.fromkeys(refusals) |
+       {56: "The line had ended before this move.", refusals[-1]: f"The position or a move is no text of {kind}."})
+      for kind, refusals in (("draughts", [10, 11, 12, 21, 20]), ("shogi", [*range(13, 20), 30]))),
     ("post", "/games/{id}/moves/{ply}", "makeMove", "Makes a move.", "games", "Moved", JSON, "MoveBody",
      {53: None} | dict.fromkeys(MOVE_REFUSALS) |
      {57: "PLY is 0 or above the plies played plus 1.", 58: "The game has another move at PLY, or the opponent's.",
@@ -373,6 +415,8 @@ ROUTES = [
      {52: None}),
     ("get", "/events/{name}/games", "listEventGames", "Returns the games of an event.", "events", "EventGames", JSON, None,
      {52: None}),
+    ("get", "/events/{name}/standings", "getStandings", "Returns the standings of an event.", "events", "Standings", JSON,
+     None, {52: None}),
     ("post", "/challenges/{number}", "openChallenge", "Challenges a member to a game of an event.", "challenges",
      "ChallengeOpened", JSON, "ChallengeBody",
      {52: None, 58: "The member has another challenge under this number.",
@@ -390,10 +434,12 @@ ROUTES = [
 
 
 def caching_headers(path, status):
-    """The fields about caching of a reply; on a path with a number 404 may be that of no route, and have none."""
-    if path not in NO_STORE or status in REFUSED_HEAD:
+    """The fields about caching of a reply. On a path with a number 404 may be that of no route, and have none; on one
+    with a body 400 may be that of a head."""
+    has_body = status == 400 and path in ANALYSES
+    if path not in NO_STORE or status in REFUSED_HEAD and not has_body:
         return {}
-    suffix = "-If-Found" if status == 404 else ""
+    suffix = "-If-Found" if status == 404 or has_body else ""
     return {"Cache_Control": f"Cache-Control{suffix}", "X_Content_Type_Options": f"X-Content-Type-Options{suffix}"}
 
 
@@ -442,7 +488,7 @@ def refusals_of(method, path, body, of_club):
 
 def operation_of(shared, method, path, name, summary, tag, reply, kind, body, of_club):
     more = {"Content_Security_Policy": "Content-Security-Policy"} if kind == HTML else {}
-    meaning = SCHEMAS[reply]["description"] + (" A repeated command has the same reply." if method == "post" else "")
+    meaning = SCHEMAS[reply]["description"] + (" A repeated command has the same reply." if method == "post" and path not in ANALYSES else "")
     replies = {"200": {"description": meaning, "headers": headers(**more, **caching_headers(path, 200)),
                        "content": {kind: {"schema": schema(reply)}}}}
     by_status = {}
@@ -479,6 +525,7 @@ def document():
                      "variables": {"port": {"default": "8080", "description": "The PORT of `serve`."}}}],
         "security": [{"MemberKey": []}],
         "tags": [{"name": "games", "description": "Games and commands on them."},
+                 {"name": "analysis", "description": "Moves that are tried."},
                  {"name": "events", "description": "Events."},
                  {"name": "challenges", "description": "Challenges between members."},
                  {"name": "me", "description": "What concerns the member who has the key."},

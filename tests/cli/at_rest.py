@@ -18,7 +18,7 @@ import tempfile
 import time
 
 sys.path[0] = str(pathlib.Path(__file__).resolve().parents[1])
-from lib.club import DRAUGHTS_MOVES, TABLES, club, create, move, read_tables
+from lib.club import DRAUGHTS_MOVES, TABLES, club, create, limit_files_to, move, read_tables
 from lib.report import check, exit_status
 from lib.server import serve, unavailable
 
@@ -54,8 +54,10 @@ def file_alone_after_each_command():
         check(f"the copy of ply {ply} accepts the next move", expected, move(f"alone{ply}.db", ply + 1))
 
 
-def remove_log(file):
-    os.remove(f"{file}-wal")
+def empty_log(file):
+    """An earlier version of the program left the log, or a server."""
+    pathlib.Path(f"{file}-wal").touch(0o600)
+    club(file, "sweep")
 
 
 def read_by_sqlite(file):
@@ -64,7 +66,7 @@ def read_by_sqlite(file):
         found.execute("SELECT count(*) FROM moves").fetchall()
 
 
-STATES = {"an empty log": lambda file: None, "no log": remove_log, "the log as sqlite3 leaves it": read_by_sqlite}
+STATES = {"an empty log": empty_log, "no log": lambda file: None, "the log as sqlite3 leaves it": read_by_sqlite}
 
 
 def restore(method, state):
@@ -326,11 +328,54 @@ def beside_foreign_tables():
 def log_has_mode_of_file():
     """The log is created with the mode of the file."""
     create("group.db")
-    os.remove("group.db-wal")
     os.chmod("group.db", 0o660)
-    check("`verify` of a file that a group may write is sound", (0, "sound"), club("group.db", "verify"))
-    check("the log has the mode of the file", "660", f"{os.stat('group.db-wal').st_mode & 0o777:o}")
+    with serve("group.db") as server:
+        server.show()
+        check("the log has the mode of the file", "660", f"{os.stat('group.db-wal').st_mode & 0o777:o}")
     check("only the owner may read a new file", "600", f"{os.stat('alone.db').st_mode & 0o777:o}")
+
+
+def logs():
+    return sorted(str(it) for it in pathlib.Path(".").glob("rest*-wal"))
+
+
+def damaged(file, statements):
+    """A copy of rest.db that another program has changed."""
+    shutil.copyfile("rest.db", file)
+    with contextlib.closing(sqlite3.connect(file, isolation_level=None)) as found:
+        found.executescript(statements)
+    return file
+
+
+def no_log_is_left():
+    """Behind a file that had no log no command leaves one: not after a refusal or a fault, and none beside a copy."""
+    create("rest.db")
+    pathlib.Path("game.pdn").write_text('[Result "0-2"]\n1. 32-28 19-23\n0-2\n')
+    pathlib.Path("rest_orders").write_text("".join(f"member r{it} keymember{it}\n" for it in range(200)) + "sweep\n")
+    for status, *words in (
+            (0, "verify"), (0, "members"), (0, "show", "1"), (1, "show", "9"), (0, "move", "1", "1", "32-28"),
+            (1, "move", "1", "2", "1-50"), (0, "import-pdn", "old", "cup", "bert", "anna", "game.pdn"), (0, "sweep"),
+            (0, "round-robin", "r", "cup", "anna", "bert"), (1, "batch", "rest_orders"), (0, "upgrade"), (3, "init"),
+            (0, "export-event", "cup"), (0, "backup", "rest_copy.db"), (3, "backup", "rest_copy.db")):
+        check(f"`{' '.join(words)}` leaves no log", (status, []), (club("rest.db", *words)[0], logs()))
+    for words in ("verify",), ("member", "late", "keymember"), ("upgrade",), ("backup", "rest_none.db"):
+        for file in (damaged("rest_72.db", "UPDATE members SET key = 'short' WHERE id = 1"),
+                     damaged("rest_70.db", "DROP TABLE seen"), damaged("rest_73.db", "PRAGMA foreign_keys = off;"
+                     "CREATE TABLE mine (of INTEGER REFERENCES members); INSERT INTO mine VALUES (999)")):
+            check(f"`{words[0]}` of {file} leaves no log", (3, f"store {file[5:7]}", []),
+                  (*(lambda it: (it[0], it[1][:8]))(club(file, *words)), logs()))
+    os.symlink("rest.db", "rest_link.db")
+    check("a command through a link leaves no log", (0, []), (club("rest_link.db", "sweep")[0], logs()))
+    os.remove("rest_copy.db")
+    check("the name of a backup can be used again", [(0, "copied"), (0, "sound"), (0, "copied")], [
+        club("rest.db", "backup", "rest_copy.db"), club("rest_copy.db", "verify"),
+        (os.remove("rest_copy.db"), club("rest.db", "backup", "rest_copy.db"))[1]])
+    check("a file without a log has each command", (0, "sound"), club("rest.db", "verify"))
+    size = os.path.getsize("rest.db")
+    said = club("rest.db", "backup", "rest_full.db", preexec_fn=limit_files_to(size // 2))
+    check("a backup that does not fit leaves no log", ((3, "store 77 Output"), []), (said, logs()))
+    pathlib.Path("rest.db-wal").touch(0o600)
+    check("a log that was there stays", (0, ["rest.db-wal"]), (club("rest.db", "sweep")[0], logs()))
 
 
 def shows_move(server):
@@ -367,6 +412,7 @@ def main():
         tables_of_other_statements()
         beside_foreign_tables()
         log_has_mode_of_file()
+        no_log_is_left()
         move_away_while_served()
     return exit_status()
 

@@ -16,6 +16,7 @@ import tempfile
 sys.path[0] = str(pathlib.Path(__file__).resolve().parents[1])
 from lib.club import FAST, PROGRAM, WAIT, limit_files_to, query, run
 from lib.report import check, exit_status
+from lib.server import serve
 
 NAMES = "anna bert cara dora emil fred".split()
 # The Berger tables of FIDE's handbook: for each round the games of players by their numbers, First and then Second.
@@ -139,6 +140,72 @@ def refusals(folder):
               (2, "", True), (status, out, err.startswith("error: ")))
 
 
+def explained(folder):
+    """With --explain standard error says why each refused order was refused, by the number of its line."""
+    text = ("# orders\nmember a/b keykeykey\nmember cara2 short\nmember anna another01\n\nevent winter2 draughts 0 5\n"
+            "seat y1 autumn anna anna\nseat y2 autumn anna zoe\nseat y3 nowhere anna bert\nmove 9999 1 32-28\nsweep\n")
+    why = ("2 this value is not allowed: NAME must be 1 to 24 letters, digits, '.', '_' or '-'\n"
+           "3 this value is not allowed: KEY, the member's secret, must be 8 to 64 letters and digits\n"
+           "4 the name is taken with other values, or another member has this key; choose another\n"
+           "6 this value is not allowed: BUDGET must be 1 to 31,536,000 seconds; 1209600 is 14 days\n"
+           "7 FIRST and SECOND are the same member\n"
+           "8 FIRST or SECOND is not a member; 'members' lists them\n"
+           "9 there is no event of this name; 'events' lists them\n"
+           "10 there is no game with this number; 'games' lists them\n")
+    expected = output([(2, "refused 65 BadValue"), (3, "refused 65 BadValue"), (4, "refused 64 NameTaken"),
+                       (6, "refused 65 BadValue"), (7, "refused 65 BadValue"), (8, "refused 65 BadValue"),
+                       (9, "refused 52 UnknownEvent"), (10, "refused 53 UnknownGame"), (11, "accepted sweep 0")])
+    give_explained = [PROGRAM, "--explain", "--now", "1000", "c.db"]
+
+    def ask(*words, data=b""):
+        ran = subprocess.run([*give_explained, *words], input=data, capture_output=True, cwd=folder, timeout=WAIT)
+        return ran.returncode, ran.stdout.decode(), ran.stderr.decode()
+
+    check("each refused order of a batch is explained", (1, expected, why), ask("batch", "-", data=text.encode()))
+    check("without --explain no order is", (1, expected, ""), give(folder, ["batch", "-"], text))
+    check("an accepted batch has no explanation", (0, "1 accepted sweep 0\n", ""), ask("batch", "-", data=b"sweep\n"))
+    with serve(f"{folder}/c.db") as server:
+        server.show()
+        check("beside a server each refused order is explained, too", (1, expected, why),
+              ask("batch", "-", data=text.encode()))
+    check("orders that cannot be read are called ORDERS",
+          (3, "", "store 76 Input\nORDERS cannot be read: check its path\n"), ask("batch", "none"))
+    check("a record of a batch that cannot be read is called RECORD",
+          (3, "", "store 76 Input\nRECORD cannot be read: check its path\n"),
+          ask("batch", "-", data=b"import-pdn z1 autumn anna bert none.pdn\n"))
+    for words, line in (
+            ("x autumn anna bert anna", "a NAME stands twice"),
+            ("x autumn anna bert zoe", "a NAME is no member's; 'members' lists them"),
+            ("x autumn anna b/c", "this value is not allowed: each NAME must be 1 to 24 letters, digits, '.', '_' or '-'"),
+            ("x" * 22 + " autumn anna bert cara", "this value is not allowed: PREFIX and the number of each game must be "
+             "1 to 24 letters, digits, '.', '_' or '-'")):
+        check(f"the 65 of `round-robin {words}` is explained", (1, "", f"refused 65 BadValue\n{line}\n"),
+              ask("round-robin", *words.split()))
+    with open("/dev/full", "wb") as full:
+        ran = subprocess.run([*give_explained, "batch", "-"], input=text.encode(), stdout=full, stderr=subprocess.PIPE,
+                             cwd=folder, timeout=WAIT)
+    said = ran.stderr.decode().splitlines(keepends=True)
+    check("a batch without standard output is explained behind its fault", (3, "store 77 Output\n", True, why),
+          (ran.returncode, said[0], said[1].startswith("the output could not be written"), "".join(said[2:])))
+
+
+def refusals_unheard(folder):
+    """A refusal whose standard error cannot be written keeps its status, over the file and beside a server."""
+    def statuses():
+        found = []
+        for words in "show 9999", "member anna another01", "move 9999 1 32-28":
+            with open("/dev/full", "wb") as full:
+                ran = subprocess.run([PROGRAM, "--now", "1000", "c.db", *words.split()], stdout=subprocess.DEVNULL,
+                                     stderr=full, cwd=folder, timeout=WAIT)
+            found.append(ran.returncode)
+        return found
+
+    check("a refusal that cannot be printed has status 1", [1] * 3, statuses())
+    with serve(f"{folder}/c.db") as server:
+        server.show()
+        check("beside a server a refusal that cannot be printed has status 1", [1] * 3, statuses())
+
+
 def byte_order_mark(folder):
     mark = "\ufeff"
     check("a batch may begin with a byte order mark", (0, "1 repeated member 1\n", ""),
@@ -219,6 +286,8 @@ def main():
         members_and_events(folder)
         round_robins(folder)
         refusals(folder)
+        explained(folder)
+        refusals_unheard(folder)
         byte_order_mark(folder)
         bad_lines(folder)
         records(folder)

@@ -44,10 +44,16 @@ def versions():
 
 def permissions():
     create()
-    modes = [f"{os.stat(it).st_mode & 0o777:o}" for it in ("c.db", "c.db-wal")]
-    check("only the owner may read the files of a club", ["600", "600"], modes)
+    check("only the owner may read the file of a club", "600", f"{os.stat('c.db').st_mode & 0o777:o}")
     check("an argument that is not UTF-8 is a usage error",
           (2, "", "error: a word is not UTF-8\n"), run(["c.db", b"\xff"]))
+    for words, said in (
+        (("event", "cup", "draughts", "a week", 0), "'a week' for '<BUDGET>': it must be a whole number"),
+        (("move", 1, 10 ** 20, "32-28"), f"'{10 ** 20}' for '<PLY>': the number is too large"),
+    ):
+        status, out, err = run(["c.db", *words])
+        check(f"`{words[0]}` names a number that it cannot read, and says why",
+              (2, "", f"error: invalid value {said}"), (status, out, err.split("\n")[0]))
     pathlib.Path("empty.db").write_bytes(b"")
     check("`verify` of an empty file is fault 70", (3, "store 70 Foreign"), club("empty.db", "verify"))
 

@@ -80,7 +80,7 @@ class Command:
     @property
     def may_fail(self):
         """Whether the output that is shown is a refusal or a fault."""
-        return bool(self.shown and re.search(r"^(refused|store) \d", self.shown, re.MULTILINE))
+        return bool(self.shown and re.search(r"^(\d+ )?(refused|store) \d", self.shown, re.MULTILINE))
 
     @property
     def reason(self):

@@ -64,7 +64,7 @@ import tempfile
 import time
 
 sys.path[0] = str(pathlib.Path(__file__).resolve().parents[1])
-from lib.caching import caching_lines, target_of
+from lib.caching import caching_lines, error_of, target_of
 from lib.club import PROGRAM, RECORDS, TESTS, change, copy_club, query
 from lib.report import exit_status, result
 from lib.server import TRIES, free_port, receive
@@ -385,7 +385,7 @@ class ServerLines:
             phrase = got.partition(b"\r\n")[0].decode(errors="replace")[len("HTTP/1.1 200 "):]
         return (f"HTTP/1.1 {status} {phrase}\r\nContent-Type: application/json\r\n"
                 f"Content-Length: {len(body.encode())}\r\nConnection: close\r\n"
-                f"{FURTHER_FIELDS.get(status, '')}{caching_lines(target, status)}\r\n{body}").encode()
+                f"{FURTHER_FIELDS.get(status, '')}{caching_lines(target, error_of(body))}\r\n{body}").encode()
 
     def reply(self, pieces, ends):
         """The reply to the bytes, after which the input ends or not."""

@@ -9,32 +9,13 @@ from lib.caching import caching_lines
 from models import json as json_model
 from models.club import NAMES, refusal, status_of
 from models.draughts import Refused
+from models.routes import MEMBERS_ROUTES, NUMBERS, WORDS
 
 HEAD_LIMIT, FIELD_LIMIT, BODY_LIMIT = 16384, 64, 65536
 START = re.compile(rb"([!#$%&'*+.^_`|~0-9A-Za-z-]+) ([!-~\x80-\xff]+) HTTP/1\.([01])")
 FIELD = re.compile(rb"([!#$%&'*+.^_`|~0-9A-Za-z-]+):([\t -~\x80-\xff]*)")
 NUMBER = re.compile(rb"[0-9]{1,9}")
-ROUTES = (  # method, path, name, and the keys of its body with their kinds
-    ("GET", "/games/ID", "game", ()),
-    ("GET", "/games/ID/legal", "legal", ()),
-    ("GET", "/games/ID/clock", "clock", ()),
-    ("GET", "/games/ID/record", "record", ()),
-    ("GET", "/games/ID/page", "page", ()),
-    ("GET", "/events/NAME/table", "table", ()),
-    ("GET", "/events/NAME/games", "games_in", ()),
-    ("GET", "/me", "me", ()),
-    ("GET", "/me/ended", "ended", ()),
-    ("GET", "/me/events", "inviting", ()),
-    ("POST", "/games/ID/moves/ID", "move", (("move", str),)),
-    ("POST", "/games/ID/draw/ID/offer", "offer", ()),
-    ("POST", "/games/ID/draw/ID/accept", "accept", ()),
-    ("POST", "/games/ID/resign", "resign", ()),
-    ("POST", "/games/ID/claim-time", "claim", ()),
-    ("POST", "/games/ID/declare/ID", "declare", ()),
-    ("POST", "/challenges/ID", "challenge", (("event", str), ("first", bool), ("other", str))),
-    ("POST", "/challenges/ID/withdraw", "withdraw", ()),
-    ("POST", "/answers/NAME/ID", "answer", (("accept", bool),)),
-)
+PARAMETERS = NUMBERS + WORDS
 
 
 class Reply:
@@ -114,41 +95,51 @@ def length_of(method, version, fields):
 
 
 def route_of(target):
-    """The method that a path asks for, its route, the values in the path and the keys of the body."""
+    """The route of a target, and the values in its path."""
     path = target.partition(b"?")[0]
     if path.startswith(b"http://"):
         authority, slash, rest = path[len(b"http://"):].partition(b"/")
         path = slash + rest if authority else b""
     words = path.split(b"/")
-    for method, pattern, name, keys in ROUTES:
-        parts = pattern.encode().split(b"/")
-        if len(parts) == len(words) and all(part == word or part in (b"ID", b"NAME") and word
+    for route in MEMBERS_ROUTES:
+        parts = route.parts()
+        if len(parts) == len(words) and all(word if part in PARAMETERS else part.encode() == word
                                             for part, word in zip(parts, words)):
-            found = [(part, word) for part, word in zip(parts, words) if part in (b"ID", b"NAME")]
-            if not all(part == b"NAME" or NUMBER.fullmatch(word) for part, word in found):
+            found = [(part, word) for part, word in zip(parts, words) if part in PARAMETERS]
+            if not all(part in WORDS or NUMBER.fullmatch(word) for part, word in found):
                 raise Refused(82)
-            return method, name, [int(word) if part == b"ID" else word.decode() for part, word in found], keys
+            return route, [int(word) if part in NUMBERS else word.decode() for part, word in found]
     raise Refused(82)
 
 
-def body_values(body, keys):
-    """The values of a route's keys in a body."""
-    if not keys:
+def body_values(body, route):
+    """The values of a route's keys in a body; of an analysis, where it begins and its moves."""
+    if not route.keys:
         return []
     try:
         found = json_model.read(body)
     except json_model.NoJson:
         raise Refused(81) from None
-    if not isinstance(found, dict) or not all(isinstance(found.get(key), kind) for key, kind in keys):
+    if not isinstance(found, dict) or not all(isinstance(found.get(key), kind) for key, kind in route.keys):
         raise Refused(81)
-    return [found[key] for key, _ in keys]
+    values = [found[key] for key, _ in route.keys]
+    return analysis_values(found, *values) if route.is_analysis else values
+
+
+def analysis_values(found, texts):
+    """Where an analysis begins (nothing, the text of a position, or the number of a game and a ply), and its moves."""
+    begins = {it: found[it] for it in ("position", "game", "ply") if it in found}
+    kinds = {it: type(value) for it, value in begins.items()}
+    if not all(isinstance(it, str) for it in texts) or kinds not in ({}, {"position": str}, {"game": int, "ply": int}):
+        raise Refused(81)
+    return [begins.get("position", (begins["game"], begins["ply"]) if "game" in begins else None), texts]
 
 
 def refused(number, has_body, further="", caller="-", target=b""):
     if number == 50:
         further = "WWW-Authenticate: Member-Key\r\n"
     assert number in NAMES
-    further += caching_lines(target.decode("latin-1"), status_of(number))
+    further += caching_lines(target.decode("latin-1"), number)
     return Reply(status_of(number), refusal(number), further=further, has_body=has_body, caller=caller)
 
 
@@ -167,18 +158,18 @@ def reply_to(club, data):
         length = length_of(method, version, fields)
         if len(data) < end[0] + length:
             return None
-        expected, route, named, keys = route_of(target)
+        route, named = route_of(target)
         found = target
-        if method != expected.encode():
-            return refused(83, has_body, f"Allow: {expected}\r\n", target=found)
+        if method != route.method.encode():
+            return refused(83, has_body, f"Allow: {route.method}\r\n", target=found)
         shown = values(fields, b"member-key")
         key = shown[0].decode("latin-1") if len(shown) == 1 else ""
         if key not in club.keys:
             raise Refused(50)
         caller = club.keys[key]
-        body = body_values(data[end[0]:end[0] + length], keys)
-        kind, text = club.answer(key, route, named, body)
-        return Reply(200, text, kind, further=caching_lines(found.decode("latin-1"), 200), caller=caller)
+        body = body_values(data[end[0]:end[0] + length], route)
+        kind, text = club.answer(key, route.name, named, body)
+        return Reply(200, text, kind, further=caching_lines(found.decode("latin-1")), caller=caller)
     except Refused as refusing:
         return refused(refusing.args[0], has_body, caller=caller, target=found)
 

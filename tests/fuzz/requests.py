@@ -1,16 +1,10 @@
 """Requests by a seed: whole ones, and ones that are changed, cut and sent in pieces, as clients may do it."""
+import copy
 import json
 
-WHOLE = (  # each route once
-    ("GET", "/games/1", None), ("GET", "/games/1/legal", None), ("GET", "/events/autumn/table", None),
-    ("POST", "/games/1/moves/1", '{"move":"32-28"}'), ("POST", "/games/1/draw/1/offer", ""),
-    ("POST", "/games/1/draw/1/accept", ""), ("POST", "/games/1/resign", ""), ("POST", "/games/1/claim-time", ""),
-    ("POST", "/games/1/declare/1", ""),
-    ("POST", "/challenges/1", '{"event":"autumn","first":true,"other":"bert"}'),
-    ("POST", "/challenges/1/withdraw", ""), ("POST", "/answers/bert/1", '{"accept":false}'),
-    ("GET", "/me", None), ("GET", "/me/ended", None), ("GET", "/me/events", None), ("GET", "/events/autumn/games", None),
-    ("GET", "/games/1/clock", None), ("GET", "/games/1/record", None), ("GET", "/games/1/page", None),
-)
+from models.routes import MEMBERS_ROUTES, WORDS
+
+MOVE = next(it for it in MEMBERS_ROUTES if it.name == "move")
 VERSIONS = "HTTP/1.0", "HTTP/1.1", "HTTP/2.0", "HTTP/1.2", "http/1.1", "HTTP/1.", "HTTP/01.1", "HTTP/1.1 ", "HTTP/", ""
 METHODS = ("HEAD", "PUT", "get", "POST", "GET", "DELETE", "OPTIONS", "PO ST", "", "GET\t", "HEAD ", "POST\0", "G(T",
            "x" * 99)
@@ -53,7 +47,21 @@ JSONS = ("", " ", "{", "}", "[]", "null", "true", "1", '"x"', "{}", '{"move":nul
          '{"a":1.7976931348623159e308,"move":"32-28"}', '{"a":0e999999999999,"move":"32-28"}',
          '{"a":1e999999999999,"move":"32-28"}', '{"a":-1e309,"move":"32-28"}', '{"a":-,"move":"32-28"}',
          '{"a":' + "9" * 310 + ',"move":"32-28"}', '{"a":' + "9" * 308 + ',"move":"32-28"}',
-         '{"a":1e-999999999999,"move":"32-28"}', '{"a":1e,"move":"32-28"}')
+         '{"a":1e-999999999999,"move":"32-28"}', '{"a":1e,"move":"32-28"}', '{"moves":[]}', '{"moves":["32-28",1]}',
+         '{"moves":"32-28"}', '{"moves":[],"game":1}', '{"moves":[],"ply":0}', '{"moves":[],"game":1,"ply":0}',
+         '{"moves":[],"game":1.0,"ply":0}', '{"moves":[],"game":1,"ply":-0}',
+         '{"moves":[],"game":true,"ply":false}', '{"moves":[],"game":18446744073709551615,"ply":0}',
+         '{"moves":[],"game":18446744073709551616,"ply":0}', '{"moves":[],"game":1,"ply":18446744073709551615}',
+         '{"moves":[],"position":null}', '{"moves":[],"position":""}', '{"moves":[[]]}',
+         '{"moves":[],"position":"W:W33:BK1","game":1,"ply":0}', '{"moves":[],"position":"W:W33:BK1","ply":0}',
+         '{"moves":["' + '","'.join(["x"] * 65) + '"]}', '{"moves":["' + "1" * 201 + '"]}')
+POSITIONS = ("W:W33:BK1", "B:W33:BK1", "W:WK47:BK4", "W:W31,32:B1", "W:W32,31:B1", "W:W51:B", "W:W0:B", "W:W33:BK1.",
+             "", "W", "W:W5:B", "B:W:B46", "W:W33:B33", "W:WK1,2:B", "k8/9/9/9/9/9/9/9/K8 b -",
+             "k8/9/1G7/9/9/9/9/9/K8 b G", "k8/9/1G7/9/9/9/9/9/K8 w -", "k8/9/9/9/9/9/9/9/K7K b -",
+             "k8/9/9/9/9/9/9/9/9 b -", "k8/9/9/9/9/9/9/9/K8 b", "k8/9/9/9/9/9/9/9/K8 b - 1",
+             "k81/9/9/9/9/9/9/9/K8 b -", "k8/9/9/9/9/9/9/9/K8 b 19P", "P8/k8/9/9/9/9/9/9/K8 w -",
+             "k8/9/9/9/9/9/P8/P8/K8 b -", "k8/9/9/9/9/9/9/9/K8 b P2G", "k8/9/9/9/9/9/9/9/K8 b 2GP",
+             "k8/9/9/9/9/9/9/9/K8 b 2Gp")
 
 
 class Request:
@@ -76,28 +84,20 @@ def bytes_of(text):
     return text.encode(errors="surrogateescape")
 
 
-def whole(method, target, body, key="keyanna1"):
-    return Request(method, target, body, key).data()
+def whole(route):
+    return Request(route.method, route.with_values(), route.body).data()
 
 
 def path_of(chance, club):
-    """A method, a path that is often one of the server's, and a body that fits it."""
+    """A route, a path that is often one of its own, and a body that fits it."""
     number = chance.choice(NUMBERS) if chance.random() < 0.1 else str(chance.randint(1, len(club.games) + 1))
     game = game_of(club, number)
     ply = chance.choice(NUMBERS) if chance.random() < 0.1 else str(
         (game.plies() if game else 0) + chance.choice((1, 1, 1, 1, 0, 2, -1)))
     mine = chance.choice(NUMBERS) if chance.random() < 0.2 else str(chance.randint(1, 4))
-    method, path, _ = chance.choice((*WHOLE, *WHOLE[3:4] * 4))
-    words = path.split("/")[1:]
-    if words[0] == "games":
-        words[1] = number
-        words[3:4] = [ply] * len(words[3:4])
-    elif words[0] == "events":
-        words[1] = chance.choice(NAMES)
-    elif words[0] != "me":
-        words[-1 if words[0] == "answers" else 1] = mine
-        words[1:2] = [chance.choice(NAMES)] if words[0] == "answers" else words[1:2]
-    return method, "/" + "/".join(words), body_of(chance, path, game)
+    route = chance.choice((*MEMBERS_ROUTES, *[MOVE] * 4))
+    names = {it: chance.choice(NAMES) for it in WORDS}
+    return route, route.with_values(ID=number, PLY=ply, NUMBER=mine, **names), body_of(chance, route, game)
 
 
 def game_of(club, number):
@@ -105,13 +105,17 @@ def game_of(club, number):
     return club.games[int(number) - 1] if is_there else None
 
 
-def body_of(chance, path, game):
-    if path.startswith("/answers"):
+def body_of(chance, route, game):
+    if route.name == "answer":
         return json.dumps({"accept": chance.random() < 0.5})
-    if path == "/challenges/1":
+    if route.name == "challenge":
         event, other = chance.choice(NAMES), chance.choice(NAMES)
         return json.dumps({"event": event, "first": chance.random() < 0.5, "other": other})
-    return move_body(chance, game) if "/moves/" in path else None if path.count("/") < 3 or "legal" in path else ""
+    if route == MOVE:
+        return move_body(chance, game)
+    if route.is_analysis:
+        return analysis_body(chance, game)
+    return chance.choice((None, "")) if route.method == "GET" else route.body
 
 
 def move_body(chance, game):
@@ -122,11 +126,30 @@ def move_body(chance, game):
     return json.dumps({"move": text})
 
 
+def analysis_body(chance, game):
+    """Moves that are tried from the opening, from a position or in a game."""
+    line, body = copy.deepcopy(game.line) if game else None, {}
+    if game and chance.random() < 0.5:
+        body = {"game": game.number, "ply": chance.choice((game.plies(), game.plies(), 0, 1, game.plies() + 1))}
+    elif chance.random() < 0.6:
+        body = {"position": line.position_text() if line and chance.random() < 0.5 else chance.choice(POSITIONS)}
+    body["moves"] = []
+    for _ in range(chance.choice((0, 1, 2, 3, 12, 66))):
+        moves = line.legal() if line and not line.end() else []
+        if not moves or chance.random() < 0.05:
+            body["moves"].append(chance.choice(MOVES))
+            continue
+        move = chance.choice(moves)
+        body["moves"].append(line.write(move))
+        line.push(move)
+    return json.dumps(body)
+
+
 def request_of(chance, club):
-    method, target, body = path_of(chance, club)
+    route, target, body = path_of(chance, club)
     if chance.random() < (0.3 if body else 0.03):
         body = chance.choice(JSONS)
-    return Request(method, target, body, chance.choice(KEYS if chance.random() < 0.1 else KEYS[:3]))
+    return Request(route.method, target, body, chance.choice(KEYS if chance.random() < 0.1 else KEYS[:3]))
 
 
 # ---- changes of a request in parts
@@ -200,7 +223,7 @@ def deepen(chance, request):
     depth = chance.choice((1, 5, 100, 125, 126, 127, 128, 129, 200, 5000))
     begins, ends = chance.choice((("[", "]"), ('{"a":', "}")))
     nested = begins * depth + "1" + ends * (depth - chance.choice((0, 0, 0, 1)))
-    request.body = f'{{"z":{nested},"move":"32-28","accept":false,"event":"autumn","first":true,"other":"bert"}}'
+    request.body = f'{{"z":{nested},"move":"32-28","moves":[],"accept":false,"event":"autumn","first":true,"other":"bert"}}'
     with_length(request, len(request.body))
 
 

@@ -18,7 +18,7 @@ from fuzz.server import MEMBERS, logged_server, order
 from models.draughts import Refused
 from fuzz.http import ask
 from lib.club import RECORDS
-from fuzz.requests import whole
+from fuzz.requests import Request
 
 COLUMNS = {
     "members": ("id", "name", "key"), "events": ("id", "name", "game", "budget", "increment"),
@@ -256,7 +256,7 @@ def made(program, file):
     for moment, asked in ((1800, MOVED), (2000, ASKED)):
         with logged_server(file, moment) as server:
             for key, path, body in asked:
-                got = ask(server.port, [whole("POST", path, body, key)], False)
+                got = ask(server.port, [Request("POST", path, body, key).data()], False)
                 assert got.startswith(b"HTTP/1.1 200 "), (path, got)
 
 

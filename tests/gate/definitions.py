@@ -672,8 +672,10 @@ def free_names(text, is_constructor, bound, kind):
     is_body = declared is not None and declared[0] in ("record", "data")
     depth = depth_of_body(lines) if is_body else None
     tokens = []
+    is_in_body = False  # a head of several lines may be indented like the fields
     for line in lines:
-        begins = len(line) - len(line.lstrip()) == depth
+        begins = is_in_body and len(line) - len(line.lstrip()) == depth
+        is_in_body = is_in_body or re.search(r"\bwhere\s*$", line) is not None
         for it in TOKEN.finditer(line):
             tokens.append((it[0], begins))
             begins = False

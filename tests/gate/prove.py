@@ -65,6 +65,8 @@ def main(words):
         return rt.main(words[1:])
     os.makedirs(LOGS, exist_ok=True)
     rt.rtlib.guarded()
+    if hasattr(rt, "share_work"):  # begin with what other checkouts of this machine kept, and offer them this one's
+        rt.share_work(is_alone=False)
     run, tasks = Run(), {}
     for crate in chosen(rt.rtlib.crates_below(TOP), words):
         waits, lines = [below.name for below in crate.below()], crate.count(rb"\n")

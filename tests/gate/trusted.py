@@ -50,7 +50,7 @@ GROUPS = (
     ("Clock", "clocks"),
     ("The machine", "club_rules club_games club_requests club_core club_laws club_imports pairings"),
     ("Tables", "store_tables store_sql schema_match club_rows club_changes club_audit club_check club_reads"),
-    ("Queries", "cross_tables club_lists club_exports club_answers"),
+    ("Queries", "cross_tables club_analysis club_lists club_exports club_answers"),
     ("Histories and crashes", "store store_files club_orders club_session"),
     ("HTTP and the control socket", "club_page http_head http_bodies http_desk control_socket server"),
     ("Command line", "cli club_batches club_program club"),
@@ -116,6 +116,7 @@ PROMISES = (
         "What is printed",
         "Reports, batches and explanations as text, and the exit status.",
         (Root("club_orders/src/explained.rt", "print_explained"), Root("club_orders/src/batched.rt", "print_batch"),
+         Root("club_orders/src/explained_batch.rt", "print_batch_explained"),
          Root("club_program/src/lib.rt", "run"))),
     Promise(
         "The command line and pairings",

@@ -5,15 +5,23 @@ not speak, whatever the reply says. Before a route is looked for, a head can be 
 """
 import re
 
-OWN = re.compile(r"(?:http://[^/?]+)?(?:/play|/me|/me/ended|/me/events|/events/[^/?]+/games"
-                 r"|/games/[0-9]{1,9}/(?:record|clock|page))(?:\?.*)?", re.DOTALL)
+from models.routes import ROUTES
+
+OWN = re.compile(rf"(?:http://[^/?]+)?(?:{'|'.join(it.pattern() for it in ROUTES if it.forbids_storing)})(?:\?.*)?",
+                 re.DOTALL)
 LINES = "Cache-Control: no-store\r\nX-Content-Type-Options: nosniff\r\n"
-HEAD_STATUSES = 400, 411, 413, 431, 501  # of refused heads
+HEAD_ERRORS = 80, 84, 85, 86, 87, 88  # of refused heads
 
 
-def caching_lines(target, status):
-    """The lines about caching of a reply of this status to a request for a target."""
-    return LINES if OWN.fullmatch(target) and int(status) not in HEAD_STATUSES else ""
+def caching_lines(target, error=None):
+    """The lines about caching of a reply to a request for a target, which has this error or none."""
+    return LINES if OWN.fullmatch(target) and error not in HEAD_ERRORS else ""
+
+
+def error_of(body):
+    """The number of the error that is the text of a body, or None."""
+    found = re.match(r'\{"error":([0-9]+),', body)
+    return int(found[1]) if found else None
 
 
 def target_of(data):

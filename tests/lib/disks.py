@@ -34,7 +34,7 @@ class Unknown(Exception):
 
 @dataclasses.dataclass(frozen=True)
 class Call:
-    """What a call does: `write` bytes at an offset, `cut` to a length, `sync`, `make` a name, or `answer`."""
+    """What a call does: `write` bytes at an offset, `cut` to a length, `sync`, `make` or `remove` a name, or `answer`."""
 
     kind: str
     name: str = ""  # of a file; the folder's is empty
@@ -143,8 +143,13 @@ class Recorder:
             raise Unknown(f"link({arguments[:200]})")
 
     def take_unlink(self, arguments, _):
-        """The control socket of a server is removed, or the name that it had first. It holds no data."""
-        if not text_in(arguments).endswith((b"-desk", b"-sk/s")):
+        """A log is removed, or the control socket of a server, or the name that it had first. A socket holds no data."""
+        path = os.path.join(self.folder, os.fsdecode(text_in(arguments)))
+        name = os.path.basename(path)
+        if os.path.dirname(path) == self.folder and name.endswith("-wal") and name in self.names:
+            self.names.remove(name)
+            self.calls.append(Call("remove", name))
+        elif not path.endswith(("-desk", "-sk/s")):
             raise Unknown(f"unlink({arguments[:200]})")
 
     def take_mmap(self, arguments, _):
@@ -211,6 +216,8 @@ def replayed(files, calls):
     for call in calls:
         if call.kind == "make":
             held.setdefault(call.name, b"")
+        elif call.kind == "remove":
+            del held[call.name]
         elif call.kind in ("write", "cut"):
             held[call.name] = after(held[call.name], [call])
     return held
@@ -303,27 +310,33 @@ def joined(choices):
 
 
 class Disk:
-    """What is synced of each file, what was done to it since, and the names made since the folder was synced."""
+    """What is synced of each file, what was done to it since, and the names made or removed since the folder was synced."""
 
     def __init__(self, files):
-        self.kept, self.loose, self.fresh = dict(files), {name: [] for name in files}, []
+        self.kept, self.loose, self.fresh, self.gone = dict(files), {name: [] for name in files}, [], []
 
     def take(self, call):
         if call.kind == "make":
+            if call.name in self.gone:
+                raise Unknown(f"{call.name} is made again before the folder was synced")
             self.kept.setdefault(call.name, b"")
             self.loose.setdefault(call.name, [])
             self.fresh.append(call.name)
+        elif call.kind == "remove":
+            self.gone.append(call.name)
         elif call.kind == "sync" and call.name:
             self.kept[call.name] = after(self.kept[call.name], self.loose[call.name])
             self.loose[call.name] = []
         elif call.kind == "sync":
-            self.fresh = []
+            for name in self.gone:
+                del self.kept[name], self.loose[name]
+            self.fresh, self.gone = [], []
         elif call.kind in ("write", "cut"):
             self.loose[call.name].append(call)
 
     def is_loose(self, name):
         """Whether a sync of that file, or of the folder, has something to do."""
-        return bool(self.loose[name] if name else self.fresh)
+        return bool(self.loose[name] if name else self.fresh + self.gone)
 
     def images(self, acknowledged, draw):
         """What the folder may hold now."""
@@ -331,7 +344,7 @@ class Disk:
         for name in sorted(self.kept):
             kept, loose = self.kept[name], self.loose[name]
             of_file = [(how, (name, kept, tuple(calls))) for how, calls in outcomes(len(kept), loose, draw)]
-            choices.append([("no name", None), *of_file] if name in self.fresh else of_file)
+            choices.append([("no name", None), *of_file] if name in self.fresh + self.gone else of_file)
         for chosen in joined(choices) if choices else [()]:
             parts_changed = [f"of {name} {how}" for name, (how, _) in zip(sorted(self.kept), chosen) if how != "nothing"]
             parts = tuple(part for _, part in chosen if part)

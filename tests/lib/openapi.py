@@ -7,7 +7,7 @@ import json
 import re
 
 KEYWORDS = {"$ref", "additionalProperties", "anyOf", "const", "description", "enum", "items", "maxItems", "maxLength",
-            "maximum", "minItems", "minimum", "oneOf", "pattern", "properties", "required", "type"}
+            "maximum", "minItems", "minimum", "not", "oneOf", "pattern", "properties", "required", "type"}
 TYPES = {"array": list, "boolean": bool, "integer": int, "null": type(None), "object": dict, "string": str}
 
 
@@ -44,6 +44,7 @@ class Description:
     def validate(self, schema, value, place):
         """Raises `Invalid` unless the value fits the schema, by the part of JSON Schema that the document uses."""
         require(not set(schema) - KEYWORDS, "unknown keyword", *set(schema) - KEYWORDS)
+        require(schema.get("not", None) is None, place, "may not be there")  # the only `not` is that of any value
         if "$ref" in schema:
             self.validate(self.resolve(schema), value, schema["$ref"].rpartition("/")[2])
         if "type" in schema:

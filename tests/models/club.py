@@ -6,6 +6,7 @@ import re
 from models import draughts, shogi
 from models.draughts import Refused
 from models.records import record_of
+from models.standings import standings
 
 LAST_MOMENT = 253402300799
 
@@ -28,6 +29,7 @@ STATES = ["open", "withdrawn", "refused", "accepted"]
 RULES = {"draughts": draughts, "shogi": shogi}
 OUTSIDE_ENDS = ["Resigned", "Agreed", "Time", "Declared", "Recorded"]  # that no move makes
 MOST_ENDED, MOST_REFUSED, MOST_OWN, MOST_RECEIVED, MOST_OF_EACH = 200, 20, 100, 100, 10  # in the lists of a member
+MOST_TRIED = 64  # moves of an analysis
 ROUND_KEY = re.compile(r"(?:.*[^0-9])?([1-9][0-9]?)\.([1-9][0-9]?)")
 
 
@@ -291,11 +293,47 @@ class Club:
         return {"clock": game.clock(max(self.last, self.moment)), "game": game.shown(), "kind": game.event["game"],
                 "legal": game.legal()["moves"]}
 
+    def do_analysis_draughts(self, _, start, texts):
+        return self.analysis("draughts", start, texts)
+
+    def do_analysis_shogi(self, _, start, texts):
+        return self.analysis("shogi", start, texts)
+
+    def analysis(self, kind, start, texts):
+        """The line from a start (nothing, the text of a position, or the number of a game and a ply) with more moves."""
+        rules, played = RULES[kind], []
+        if isinstance(start, tuple):
+            game = self.game_of(start[0])
+            if game.event["game"] != kind:
+                raise Refused(53)
+            played = game.line.moves[:start[1]]
+        if len(texts) > MOST_TRIED or any(len(it.encode()) > 200 for it in texts):
+            raise Refused(65)
+        if isinstance(start, tuple) and start[1] > game.plies():
+            raise Refused(65)
+        line, written = rules.Line(rules.read_written(start) if isinstance(start, str) else None), []
+        for move in played:
+            line.push(move)
+        for text in texts:
+            if line.end():
+                raise Refused(56)
+            move = line.read(text)
+            written.append(line.write(move))
+            line.push(move)
+        end = line.end()
+        legal = [] if end else [line.write(it) for it in line.legal()]
+        return {"end": end and end[0], "legal": legal, "moves": written, "position": line.position_text()}
+
     def games_in(self, event):
         return [it for it in self.games if it.event is event]
 
     def do_games_in(self, _, name):
         return {"games": [it.in_event() for it in self.games_in(self.event_of(name))]}
+
+    def do_standings(self, _, name):
+        event = self.event_of(name)
+        games = [(*it.players, it.result) for it in self.games_in(event)]
+        return {"event": event["name"], "kind": event["game"], "standings": standings([*self.keys.values()], games)}
 
     def do_inviting(self, member):
         events = [{"budget": it["budget"], "event": it["name"], "game": it["game"], "increment": it["increment"]}

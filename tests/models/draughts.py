@@ -134,6 +134,14 @@ def read_fen(text):
     return found[1], pieces
 
 
+def read_written(text):
+    """The position of a text as the club writes it."""
+    position = read_fen(text)
+    if position is None or fen(position) != text:
+        raise Refused(20)
+    return position
+
+
 def add_item(pieces, side, item):
     found = re.fullmatch(rf"(K?)({SQUARE})", item) or re.fullmatch(rf"()({SQUARE})-({SQUARE})", item)
     if not found:
@@ -202,10 +210,10 @@ def is_class(position, sizes):
 
 
 class Line:
-    """A line of moves from the opening, with what its end is reckoned from."""
+    """A line of moves from the opening or another position, with what its end is reckoned from."""
 
-    def __init__(self):
-        self.position = opening()
+    def __init__(self, position=None):
+        self.position = position or opening()
         self.moves, self.seen, self.king_moves = [], {}, 0
         self.classes = {sizes: 0 for sizes in ((3,), (1, 2))}
         self.count()

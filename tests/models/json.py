@@ -10,6 +10,7 @@ HEX = re.compile(r"\\u([0-9a-fA-F]{4})")
 ESCAPES = {"b": "\b", "f": "\f", "n": "\n", "r": "\r", "t": "\t", '"': '"', "\\": "\\", "/": "/"}
 WORDS = {"true": True, "false": False, "null": None}
 DEEPEST = 127
+LARGEST = 2 ** 64 - 1  # of the integers; any other number is a float
 
 
 class NoJson(Exception):
@@ -53,7 +54,7 @@ class Reader:
         if not found or math.isinf(float(found[0])):
             raise NoJson
         self.at = found.end()
-        return float(found[0])
+        return int(found[0]) if found[0].isdigit() and int(found[0]) <= LARGEST else float(found[0])
 
     def items(self, depth):
         if depth > DEEPEST:

@@ -3,11 +3,13 @@
 A position is (turn, board, hands): 'b' or 'w', a map from (file, rank) to (side, kind, is_promoted), and a map from
 (side, kind) to a count above 0. A move is (from, to, promotes) with from a square, or a kind that is dropped.
 """
+import collections
 import re
 
 from models.draughts import Refused
 
 KINDS = "RBGSNLP"
+SET = {"R": 2, "B": 2, "G": 4, "S": 4, "N": 4, "L": 4, "P": 18}  # pieces of a kind
 FORWARD = {"b": -1, "w": 1}
 STRAIGHT, DIAGONAL = ((0, 1), (0, -1), (1, 0), (-1, 0)), ((1, 1), (1, -1), (-1, 1), (-1, -1))
 GOLD = (0, 1), (1, 1), (-1, 1), (1, 0), (-1, 0), (0, -1)  # files aside and ranks forward
@@ -38,6 +40,19 @@ def read_sfen(text):
     for count, letter in re.findall(r"(\d*)([a-zA-Z])", hand):
         hands["b" if letter.isupper() else "w", letter.upper()] = int(count or 1)
     return turn, board, hands
+
+
+def read_written(text):
+    """The position of a text as the club writes it, with one king a side and no more pieces than a set."""
+    if not re.fullmatch(r"[1-9a-zA-Z+]+(?:/[1-9a-zA-Z+]+){8} [bw] [0-9a-zA-Z-]+", text):
+        raise Refused(30)
+    position = read_sfen(text)
+    counts = collections.Counter(kind for _, kind, _ in position[1].values())
+    counts.update({kind: sum(position[2].get((side, kind), 0) for side in "bw") for kind in KINDS})
+    kings = sorted(side for side, kind, _ in position[1].values() if kind == "K")
+    if write_sfen(position) != text or kings != ["b", "w"] or any(counts[kind] > most for kind, most in SET.items()):
+        raise Refused(30)
+    return position
 
 
 def letter_of(piece):
@@ -214,10 +229,10 @@ def write_move(move):
 
 
 class Line:
-    """A line of moves from the opening, with what its end is reckoned from."""
+    """A line of moves from the opening or another position, with what its end is reckoned from."""
 
-    def __init__(self):
-        self.position = read_sfen(OPENING)
+    def __init__(self, position=None):
+        self.position = position or read_sfen(OPENING)
         self.moves, self.checks, self.seen, self.given = [], {"b": 0, "w": 0}, {}, []
         self.count()
 

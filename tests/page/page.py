@@ -21,7 +21,7 @@ import page_firefox
 from page_games import (
     by_keyboard, by_screen_reader, by_touch, challenges, choices, claim, clocks, declaration, dragging,
     draughts_game, ends_meanwhile, lost_replies, offer, preview, record, refused_move, resignation, shogi_game,
-    stepping, unsent_move,
+    stepping, tried, unsent_move,
 )
 from page_home import (
     empty_club, home, installed, kept_key, many_games, next_game, notices, nowhere, odd_keys, other_name, requests,
@@ -42,7 +42,7 @@ CASES = [
     ends_meanwhile, shut_club, silent_desk, lost_replies, claim, declaration, home, requests, notices, installed, many_games,
     above_the_fold, written_in_japan, whole_texts, empty_club, preview, unsent_move, nowhere, marks_of_shogi,
     clocks, motion, still, contrast, dragging, by_keyboard, by_screen_reader,
-    by_touch, stepping, record, tables, languages, on_a_phone, on_its_side, policy, light_and_dark, nothing_forbidden,
+    by_touch, stepping, tried, record, tables, languages, on_a_phone, on_its_side, policy, light_and_dark, nothing_forbidden,
 ]
 
 

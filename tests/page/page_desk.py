@@ -3,11 +3,12 @@
 
     python3 tests/page/page_desk.py PROGRAM FILE PORT [--now SECONDS]
 
-serves the page at PORT to try it by hand. A `Desk` is `PROGRAM FILE serve`; what of GET /play, /me, /me/ended, /me/events,
-/events/NAME/games, /games/ID/clock, /games/ID/page and /games/ID/record it refuses as no route is what it `lacks`. A desk
-without /me/ended has no positions in /me and no deadlines in /events/NAME/games, either: then it lacks these, too. A `StandIn` answers
-these alone, from a copy of the file that sqlite3 reads and by the word `export`, and hands all else on. Before it
-answers a path it asks the desk for a game with the same key, so that an unknown key and a shut club are told as the
+serves the page at PORT to try it by hand. A `Desk` is `PROGRAM FILE serve`; what of GET /play, /me, /me/ended,
+/me/events, /events/NAME/games, /events/NAME/standings, /games/ID/clock, /games/ID/page, /games/ID/record and POST
+/analysis/KIND it refuses as no route is what it `lacks`. A desk without /me/ended has no positions in /me and no
+deadlines in /events/NAME/games, either: then it lacks these, too. A `StandIn` answers these alone, from a copy of the
+file that sqlite3 reads and by the word `export`, and hands all else on. Before it answers a path it asks the desk for a
+game with the same key, so that an unknown key and a shut club are told as the
 desk tells them.
 """
 import argparse
@@ -27,7 +28,12 @@ import sys
 import tempfile
 import time
 
-PAGE = pathlib.Path(__file__).resolve().parents[2] / "page"
+TOP = pathlib.Path(__file__).resolve().parents[2]
+sys.path.insert(1, str(TOP / "tests"))
+from models import draughts, shogi  # noqa: E402
+from models.standings import standings  # noqa: E402
+
+PAGE = TOP / "page"
 STATES = "open", "withdrawn", "refused", "accepted"
 GAMES = "draughts", "shogi"
 MOST_ENDED = 200
@@ -135,12 +141,20 @@ class Club:
         events = [dict(zip(("budget", "event", "game", "increment"), it)) for it in kept]
         return {"events": events, "members": [it for it in self.members.values() if it != self.me["name"]]}
 
-    def games_of(self, event):
+    def rows_of(self, event):
         number = next((it["id"] for it in self.events.values() if it["name"] == event), None)
         if number is None:
             raise Refusal(52)
-        rows = self.found.execute("SELECT * FROM games WHERE event = ? ORDER BY id", (number,))
-        return {"games": [self.listed(it) for it in rows]}
+        return [*self.found.execute("SELECT * FROM games WHERE event = ? ORDER BY id", (number,))]
+
+    def games_of(self, event):
+        return {"games": [self.listed(it) for it in self.rows_of(event)]}
+
+    def standings_of(self, event):
+        rows = self.rows_of(event)
+        games = [(*self.sides(it), it["result"]) for it in rows]
+        kind = next(GAMES[it["game"]] for it in self.events.values() if it["name"] == event)
+        return {"event": event, "kind": kind, "standings": standings([*self.members.values()], games)}
 
     def listed(self, row):
         first, second = self.sides(row)
@@ -170,9 +184,11 @@ PATHS = {
     r"/me/ended": lambda club: club.ended(),
     r"/me/events": lambda club: club.terms(),
     r"/events/([^/]+)/games": lambda club, event: club.games_of(event),
+    r"/events/([^/]+)/standings": lambda club, event: club.standings_of(event),
     r"/games/([0-9]{1,9})/clock": lambda club, game: club.clock(game),
     r"/games/([0-9]{1,9})/page": None,
     r"/games/([0-9]{1,9})/record": None,
+    r"/analysis/(draughts|shogi)": None,
 }
 NOT_HANDED_ON = "connection", "content-length", "content-type"
 
@@ -221,7 +237,24 @@ class Answers(http.server.BaseHTTPRequestHandler):
         kind = GAMES["/" in found["game"]["position"]]
         return self.reply_json(200, {**found, "kind": kind, "legal": found["legal"]["moves"]})
 
-    def answer(self, pattern):
+    def analysis(self, kind, body):
+        """A line of a game and the moves that are tried, by the models of the rules."""
+        asked = json.loads(body)
+        game = json.loads(self.ask_desk("GET", f"/games/{asked['game']}", None)[2])
+        line, written = {"draughts": draughts, "shogi": shogi}[kind].Line(), []
+        for text in game["moves"][:asked["ply"]]:
+            line.push(line.read(text))
+        for text in asked["moves"]:
+            move = line.read(text)
+            written.append(line.write(move))
+            line.push(move)
+        end = line.end()
+        legal = [] if end else [line.write(it) for it in line.legal()]
+        return self.reply_json(200, {"end": end and end[0], "legal": legal, "moves": written, "position": line.position_text()})
+
+    def answer(self, pattern, body):
+        if pattern.startswith("/analysis"):
+            return self.analysis(*re.fullmatch(pattern, self.path).groups(), body)
         if self.command != "GET":
             raise Refusal(83)
         if pattern == "/play":
@@ -245,7 +278,7 @@ class Answers(http.server.BaseHTTPRequestHandler):
         pattern = pattern_of(self.path)
         try:
             if pattern in self.server.desk.lacks:
-                return self.answer(pattern)
+                return self.answer(pattern, body)
             return self.reply(*self.ask_desk(self.command, self.path, body))
         except Refusal as refusal:
             number = refusal.args[0]
@@ -291,7 +324,7 @@ class Desk:
     def lacks_path(self, pattern):
         """Whether a path of the pattern is no route of the desk, which says so before it looks at a key."""
         with contextlib.closing(self.connection()) as asked:
-            asked.request("GET", re.sub(r"\(.*\)", "1", pattern))
+            asked.request("GET", re.sub(r"\((?:(\w+)\||).*\)", lambda it: it[1] or "1", pattern))
             return asked.getresponse().status == 404
 
 

@@ -1,13 +1,12 @@
 """Cases of the page: playing a game."""
 import json
 import pathlib
-import re
 import tempfile
 import time
 
 import page_desk
 from page_room import (
-    ask_first, attempt, board, club, come_back, confirm, KEYS, move, play, played, says, square, stored,
+    ask_first, attempt, board, club, come_back, confirm, KEYS, move, of_fen, play, played, says, square, stored,
     stored_moves, told, TOP, verdict,
 )
 from page_shared import AMBIGUOUS, OPENINGS, PHONE, WHOLE_SHOGI
@@ -19,6 +18,7 @@ LONG_DRAUGHTS = [*AMBIGUOUS, *"""48x37x23x40 45x34 13-18 22x24 15-20 24x13 8x19 
     39-34 11-16 46-41 1-6 20-15 12-17 43-39 22-27 36-31 27x47 34-29 47x20 15x24 17-22 24-20 16-21 20-15 7-11 40-34
     22-27 44-40 21-26 34-30 11-17 30-24 17-22 15-10 27-31 39-34 22-27 34-29 31-37 10-5 6-11 5x41 27-32 41x6 26-31
     40-34 31-36 24-20 36-41 6-22 41-46 22-28 46x48 29-24 48-26 35-30 26-48 24-20 48x9""".split()]
+AFTER_TWO = "B:W19,31,33,34,35,36,37,38,39,40,41,42,43,44,45,46,47,48,49,50:B1,2,3,4,5,6,7,8,9,10,11,12,13,14,15,16,17,18,20"
 LOSE_NEXT = """(() => {
     const real = window.fetch;
     window.fetch = async (...how) => {
@@ -88,6 +88,56 @@ def resignation(room):
     verdict("the focus is not lost with the button", "title", anna.value("document.activeElement.id"))
     come_back(bert)
     told("the other has won", bert, "#state", "You won: by resignation (0-2)")
+
+
+def tried(room):
+    """A member tries moves on a copy of the board. None is sent, and the other sees nothing of it."""
+    game = room.seat("autumn", "anna", "bert", ["32-28"])
+    anna, bert = (room.member(it, game) for it in ("anna", "bert"))
+    told("the game waits for the other", anna, "#state", "bert to move")
+    anna.click("#analyse")
+    told("an analysis is marked as one", anna, "#state", "Analysis:")
+    told("and says that nothing is sent", anna, "#hint", "None is sent")
+    verdict("the board is marked, too", True, anna.value("getComputedStyle(frame).outlineStyle === 'dashed'"))
+    verdict("no action of the game is offered", [], actions(anna))
+    attempt(anna, "19", "23")
+    told("a move of the other side can be tried", anna, "#state", "Analysis:\n19-23")
+    attempt(anna, "28", "19")
+    told("and an answer to it", anna, "#state", "19-23, 28x19")
+    verdict("the board shows the position after them", of_fen(AFTER_TWO), board(anna))
+    come_back(anna)
+    room.post("bert", f"games/{game}/moves/2", {"move": "20-24"})
+    come_back(anna)
+    played(anna, 2)
+    told("a move of the game does not end it", anna, "#state", "19-23, 28x19")
+    anna.click_words("#confirm button", "Undo")
+    says(anna, "#hint", "None is sent")
+    verdict("a move is undone", True, anna.until("document.getElementById('state').innerText.endsWith('19-23')"))
+    anna.press("ArrowLeft")
+    verdict("so it is by the keyboard", True, anna.until("document.getElementById('state').innerText.trim() === 'Analysis:'"))
+    anna.press("ArrowLeft")
+    verdict("back through the game", True, anna.until("!!document.querySelector('[data-square=\"32\"]').firstChild"))
+    attempt(anna, "31", "26")
+    told("other first moves can be tried", anna, "#state", "31-26")
+    anna.press("End")
+    anna.click_words("#confirm button", "Back to the game")
+    told("the game is where it was", anna, "#state", "Your turn")
+    verdict("and no longer marked", False, anna.value("getComputedStyle(frame).outlineStyle === 'dashed'"))
+    verdict("the club has no move of the analysis", ["32-28", "20-24"], stored_moves(game))
+    come_back(bert)
+    told("nor does the other see one", bert, "#state", "bert played 20-24")
+    other = room.seat("fuji", "anna", "bert", ["7g7f", "3c3d"])
+    cara = room.member("cara", other)
+    cara.until("!!document.getElementById('analyse')")
+    cara.click("#analyse")
+    says(cara, "#state", "Analysis:")
+    attempt(cara, "8h", "2b", "horse")
+    told("who looks on can try a promotion", cara, "#state", "Bx2b+")
+    attempt(cara, "3a", "2b")
+    told("and its capture", cara, "#state", "Sx2b")
+    attempt(cara, "B*", "4e")
+    told("and a drop from the hand", cara, "#state", "B*4e")
+    verdict("the club has no move of it, either", ["7g7f", "3c3d"], stored_moves(other))
 
 
 def refused_move(room):
@@ -443,7 +493,7 @@ def clocks(room):
     other = room.seat("flash", "anna", "bert")
     anna = room.member("anna", game)
     says(anna, "#state", "Your turn")
-    verdict("a long clock has days, hours and minutes", True, bool(re.fullmatch(r"6 days 23:59", anna.text("#near-clock"))))
+    told("a long clock has days, hours and minutes", anna, "#near-clock", "6 days 23:59")
     verdict("that of the other stands", "7 days 00:00", anna.text("#far-clock"))
     club("event", "hour", "draughts", "3600", "0")
     hour = room.seat("hour", "anna", "bert")

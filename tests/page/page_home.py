@@ -8,8 +8,10 @@ import time
 
 from page_room import ask_first, club, come_back, DAY, KEYS, move, says, sign_in, told, verdict
 from page_shared import OPENINGS
+from models.standings import standings
 
 ODD_KEYS = "kéyanna1", "鍵keyanna", "key anna1", "keyanna1\u200b", "<b>keyanna1</b>", "key%0aanna1", "no-such-key"
+COLUMNS = "place", "member", "points", "games", "wins", "draws", "losses", "sonneborn_berger", "running"  # of an event
 NO_DEADLINE = """(() => {
     const real = window.fetch;
     window.fetch = async (path, how) => {
@@ -177,10 +179,12 @@ def tables(room):
     anna.until("!document.getElementById('event').hidden")
     rows = anna.value("""[...document.querySelectorAll('#standings tbody tr')]
         .map((it) => [...it.children].map((cell) => cell.innerText.trim()))""")
-    table = [it.split() for it in club("table", "autumn").splitlines()[1:]]
+    listed = [it.split() for it in club("games", "--event", "autumn").splitlines()]
+    games = [(*it[3:5], it[10] if it[8] == "end" else None) for it in listed]
+    expected = standings([it.split()[2] for it in club("members").splitlines()], games)
     names = [it[1] for it in rows]
-    verdict("the places, points, wins, draws and losses are those of the club", [it[:7] for it in table],
-            [[*it[:3], *it[-4:]] for it in rows][:len(table)])
+    verdict("the places, sums, Sonneborn-Berger numbers and running games are those of the club",
+            [[str(it[key]) for key in COLUMNS] for it in expected], [[*it[:3], *it[-6:]] for it in rows])
     verdict("whoever plays there stands in it", True, {"cara", "king"} <= {*names})
     pair = names.index("king"), names.index("cara")
     cell = rows[pair[0]][3 + pair[1]]
@@ -188,7 +192,8 @@ def tables(room):
     links = anna.value("[...document.querySelectorAll('#standings td a')].map((it) => it.hash)")
     verdict("from which one comes to the game", True, {f"#game/{game}", f"#game/{other}"} <= {*links})
     told("the games are listed", anna, "#event-games", "by resignation")
-    told("with the time that is left", anna, "#event-games", "cara to move \u00b7 6 days left")
+    left = re.search(r"cara to move \u00b7 [67] days left", anna.text("#event-games"))  # 7 in the game's first second
+    verdict("with the time that is left", True, left is not None)
     anna.click(f"#event-games a[href='#game/{game}']")
     told("a game of others can be looked at", anna, "#state", "king won: by resignation (0-2)")
     verdict("and not played", 0, anna.value("document.querySelectorAll('.movable, #actions button, #urgent button').length"))

@@ -177,11 +177,14 @@ def extras(page_of, save, games):
         "preview": ("draughts", ["#board [data-square='33']", "#board [data-square='29']"]),
         "touched": ("shogi", ["#board [data-square='2d']"]),
         "drop": ("hands", ["#near-hand [data-square='B*']"]),
+        "analysis": ("overdue", ["#analyse", "#board [data-square='32']", "#board [data-square='28']"]),
+        "analysis_shogi": ("shogi", ["#analyse", "#board [data-square='2d']", "#board [data-square='3d']"]),
         "resign": ("draughts", ["#actions .danger"]),
         "settings": ("shogi", ["#open-settings"]),
     }
     for name, (game, clicks) in shown.items():
-        for size, (width, height, phone) in {"1280": (1280, 800, False), "360": (360, 740, True)}.items():
+        sizes = {"1280": (1280, 800, False), "768": (768, 1000, False), "360": (360, 740, True)}
+        for size, (width, height, phone) in sizes.items():
             if ONLY and not {name, "extras"} & {*ONLY}:
                 continue
             scheme = "dark" if name in ("touched", "settings") else "light"

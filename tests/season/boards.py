@@ -1,4 +1,4 @@
-"""What `show` prints of a game, by its moves as draughts and shogi play them once more."""
+"""What `show` prints of a game, and the reply to an analysis: by moves as draughts and shogi play them once more."""
 from models import draughts, shogi
 
 RULES = {"draughts": draughts, "shogi": shogi}
@@ -17,6 +17,18 @@ def shown(game, moment, letters=False):
     diagram = draughts_lines if game.event.game == "draughts" else letter_lines if letters else bod_lines
     lines = [f"Game {game.number} {game.event.name}: {' - '.join(game.players)}", standing(game, moment)]
     return "".join(f"{it}\n" for it in [*lines, *diagram(line.position), *move_lines(game)])
+
+
+def tried(kind, played, texts, position=None):
+    """The reply to an analysis: moves that are tried after those that were played, from the opening or a position."""
+    line, written = RULES[kind].Line(position and RULES[kind].read_written(position)), []
+    for text in [*played, *texts]:
+        move = line.read(text)
+        written.append(line.write(move))
+        line.push(move)
+    end = line.end()
+    return {"end": end and end[0], "legal": [] if end else [line.write(it) for it in line.legal()],
+            "moves": written[len(played):], "position": line.position_text()}
 
 
 def standing(game, moment):

@@ -10,6 +10,7 @@ import re
 
 from lib.caching import caching_lines
 from models import draughts, shogi
+from models.standings import standings
 
 LAST_MOMENT = 253402300799
 RULES = {"draughts": draughts, "shogi": shogi}
@@ -214,12 +215,13 @@ class Club:
     def replied(self, member, path, now):
         """The bytes of the reply to a member who asks by one of the paths."""
         routes = {("me",): self.me, ("me", "ended"): self.my_ended, ("me", "events"): self.my_events,
-                  ("events", "games"): self.event_games, ("events", "table"): self.event_table,
-                  ("games", "clock"): self.clock, ("games", "record"): self.game_record}
+                  ("events", "games"): self.event_games, ("events", "standings"): self.event_standings,
+                  ("events", "table"): self.event_table, ("games", "clock"): self.clock,
+                  ("games", "record"): self.game_record}
         words = path.split("/")[1:]
         asked = routes[tuple(words) if words[0] == "me" else (words[0], words[2])]
         try:
-            return reply(200, *asked(words, member, self.moment(now)), caching_lines(path, 200))
+            return reply(200, *asked(words, member, self.moment(now)), caching_lines(path))
         except Refused as refusing:
             return refusal(refusing.args[0], path)
 
@@ -251,6 +253,11 @@ class Club:
                                 "turn": None if it.end else it.mover()}
                                for it in self.games if it.event is event]})
 
+    def event_standings(self, words, member, moment):
+        event = self.event_of(words[1])
+        games = [(*it.players, it.result) for it in self.games if it.event is event]
+        return to_json({"event": event.name, "kind": event.game, "standings": standings([*self.keys], games)})
+
     def event_table(self, words, member, moment):
         return "text/plain", self.table(words[1])
 
@@ -279,7 +286,7 @@ def reply(status, kind, body, further="", has_body=True):
 
 
 def refusal(number, path, has_body=True):
-    further = FURTHER.get(number, "") + caching_lines(path, STATUSES[number])
+    further = FURTHER.get(number, "") + caching_lines(path, number)
     return reply(STATUSES[number], *to_json({"error": number, "name": NAMES[number]}), further, has_body)
 
 

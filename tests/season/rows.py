@@ -82,6 +82,26 @@ SELECT json_object('games', json(json_group_array(json(text)))) FROM (
         (SELECT round FROM endings WHERE "key" = ending OR "key" GLOB '*[^0-9]' || ending),
         'second', black, 'turn', iif(runs, mover, NULL)) AS text
     FROM dated WHERE name = :event ORDER BY id)"""
+STANDINGS = """, sides AS (
+    SELECT white AS member, black AS other, substr(result, 1, 1) + 0 AS points, runs FROM dated WHERE name = :event
+    UNION ALL SELECT black, white, substr(result, 3, 1) + 0, runs FROM dated WHERE name = :event),
+totals AS (
+    SELECT member, ifnull(sum(points), 0) AS points, count(points) AS games, count(*) - count(points) AS running,
+        count(iif(points = 2, 1, NULL)) AS wins, count(iif(points = 1, 1, NULL)) AS draws,
+        count(iif(points = 0, 1, NULL)) AS losses
+    FROM sides GROUP BY member),
+lines AS (
+    SELECT totals.*, ifnull((SELECT sum(sides.points * against.points) FROM sides, totals AS against
+        WHERE sides.member = totals.member AND against.member = sides.other), 0) AS sonneborn_berger
+    FROM totals),
+placed AS (
+    SELECT lines.*, row_number() OVER (ORDER BY points DESC, wins DESC, sonneborn_berger DESC, members.id) AS place
+    FROM lines, members WHERE members.name = lines.member)
+SELECT json_object('event', name, 'kind', iif(game, 'shogi', 'draughts'), 'standings', json((
+    SELECT json_group_array(json(text)) FROM (
+        SELECT json_object('draws', draws, 'games', games, 'losses', losses, 'member', member, 'place', place,
+            'points', points, 'running', running, 'sonneborn_berger', sonneborn_berger, 'wins', wins) AS text
+        FROM placed ORDER BY place)))) FROM events WHERE name = :event"""
 CLOCK = """SELECT json_object('deadline', iif(runs, until, NULL), 'game', id, 'left', json_array(left1, left2),
     'moment', moment, 'now', json_array(iif(runs AND NOT plies % 2, max(0, deadline - moment), left1),
         iif(runs AND plies % 2, max(0, deadline - moment), left2)),
@@ -133,8 +153,8 @@ class Rows:
         mine = {"/me": MINE, "/me/ended": ENDED, "/me/events": INVITING}
         if path in mine:
             return self.one(mine[path], member=member, now=now)
-        if words[2] == "games":
-            return self.one(EVENT_GAMES, event=words[1], now=now)
+        if words[2] in ("games", "standings"):
+            return self.one(EVENT_GAMES if words[2] == "games" else STANDINGS, event=words[1], now=now)
         return self.one(CLOCK, game=int(words[1]), now=now) if words[2] == "clock" else None
 
 

@@ -202,6 +202,7 @@ class Season:
             yield member, "/me/events"
         for event in self.club.events:
             yield self.chance.choice([*self.club.keys]), f"/events/{event}/games"
+            yield self.chance.choice([*self.club.keys]), f"/events/{event}/standings"
             yield self.chance.choice([*self.club.keys]), f"/events/{event}/table"
         for game in self.club.games:
             yield self.chance.choice([*self.club.keys]), f"/games/{game.number}/clock"
@@ -228,7 +229,7 @@ class Season:
         asked = [*self.paths()]
         expected = {it: self.club.replied(*it, now) for it in asked}
         got = {it: self.ask(port, self.club.keys[it[0]], "GET", it[1]) for it in asked}
-        for kind in ("me", "me/ended", "me/events", "games", "table", "clock", "record"):
+        for kind in ("me", "me/ended", "me/events", "games", "standings", "table", "clock", "record"):
             some = [it for it in asked if it[1].endswith(f"/{kind}")]
             compare(f"{stage}, /{kind} is that of the model",
                     {it: expected[it] for it in some}, {it: got[it] for it in some})
@@ -399,6 +400,23 @@ def swept(season):
     check("the club is sound after the season", (0, "sound\n", ""), season.give(late, ["verify"]))
 
 
+def analysed(season):
+    """The moves of each game from its third on are tried in the game, and from its position. No row changes."""
+    now, expected, got = season.club.last, {}, {}
+    with rows_of(season.folder) as rows, season.server(now) as port:
+        for game in (it for it in season.club.games if len(it.texts) > 2):
+            kind, before, texts = game.event.game, game.texts[:2], game.texts[2:66]
+            position = boards.tried(kind, [], before)["position"]
+            expected |= {(game.number, "game"): boards.tried(kind, before, texts),
+                         (game.number, "position"): boards.tried(kind, [], texts, position)}
+            for name, start in ("game", {"game": game.number, "ply": 2}), ("position", {"position": position}):
+                asked = "POST", f"/analysis/{kind}", start | {"moves": texts}
+                got[game.number, name] = season.answer(port, season.chance.choice([*season.club.keys]), *asked)
+    compare("moves that are tried have the reply of the model", {it: (200, expected[it]) for it in expected}, got)
+    with rows_of(season.folder) as kept:
+        check("analyses change no row", rows.held, kept.held)
+
+
 # ---- what is refused
 
 def refused(season):
@@ -537,7 +555,8 @@ def gone_through(parts):
 
 
 def main():
-    gone_through((opened, seated, in_blitz, rounds, challenged, offered, brought_in, swept, refused, faulty))
+    gone_through((opened, seated, in_blitz, rounds, challenged, offered, brought_in, analysed, swept, refused,
+                  faulty))
     gone_through((calendar,))
     return exit_status()
 

@@ -41,6 +41,15 @@ def shown(server):
         return str(error)
 
 
+def shown_again(server):
+    """The status of a reply that shows a game, after one that says when to try again."""
+    reply = server.send(SHOW_GAME)
+    if b"\r\nRetry-After: 2\r\n" in reply:
+        time.sleep(2)
+        reply = server.send(SHOW_GAME)
+    return int(reply.split()[1])
+
+
 @contextlib.contextmanager
 def busy(server, statuses):
     """Three clients that send one request after another, and the statuses of the replies."""
@@ -107,7 +116,7 @@ def commands_and_queries():
     expected += [["move", "0"], ["move", "0"], ["move", "1"], ["member", "1"]]
     expected += [["import-pdn", "0"], ["import-pdn", "0"], ["sweep", "0"]]
     check("each command is in the log", expected, commands)
-    check("each request is in the log with its member", [["GET", "/games/1", "200", "anna"]] * 2, requests)
+    check("each request is in the log with its member", [["GET", "/games/{id}", "200", "anna"]] * 2, requests)
     check("no key is in the log", False, "key" in pathlib.Path("log").read_text())
 
 
@@ -234,7 +243,7 @@ def dead_sockets():
 
 def two_servers():
     with serve(now=None) as first, serve(now=None) as second:
-        statuses = [shown(server) for _ in range(5) for server in (first, second)]
+        statuses = [shown_again(server) for _ in range(5) for server in (first, second)]
         check("two servers share a file", [200] * 10, statuses)
         check("a command works beside two servers", (0, "sound"), club("c.db", "verify"))
         first.process.kill()

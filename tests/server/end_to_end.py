@@ -139,9 +139,9 @@ def draughts():
     log, names = log_lines(), [line.split()[-1] for line in log_lines()]
     check("the log has a line for each connection", len(DRAUGHTS), len(log))
     check("no key is in the log", [], [it for it in log if re.search("key[a-c]", it)])
-    check("a line of the log has method, path and status", "GET /games/1 401 -", log[0])
+    check("a line of the log has method, path and status", "GET /games/{id} 401 -", log[0])
     check("a line of the log ends with the member", [10, 8, 3], [names.count(it) for it in ("anna", "bert", "-")])
-    check("a request without a member is logged with a hyphen", ["POST /games/1 405 -", "GET /nowhere 404 -"],
+    check("a request without a member is logged with a hyphen", ["POST /games/{id} 405 -", "GET /nowhere 404 -"],
           [it for it in log if re.search(" (405|404) -$", it)])
 
 

@@ -4,13 +4,16 @@
     python3 tests/server/flood.py
 
 Ten members challenge anna 300 times each, and she challenges the last of them once. Her list has the first ten
-challenges of each; it stays small, and is sent soon. A challenger's own list has his last hundred. Another member, who
-comes first in the club, challenges anna too: then the last challenge of the last challenger gives way, and nobody is
-hidden. The expected lists follow from the commands.
+challenges of each; it stays small, and is sent soon. A challenger's own list has his last hundred, and the last one's
+has anna's too. A member who neither challenged nor was challenged has an empty list. That member, who comes first in
+the club, challenges anna: then the last challenge of the last challenger gives way, and nobody is hidden. The expected
+lists follow from the commands. With an index on the challenged member, which an officer may add, the list is the same.
 """
+import contextlib
 import http.client
 import json
 import pathlib
+import sqlite3
 import sys
 import tempfile
 import time
@@ -83,11 +86,32 @@ def flooded(server):
     check("a challenger's last hundred challenges are listed", mine, found["challenges"])
     check("the number of his others is listed", {"from": EACH - OWN, "to": 0}, found["more"])
     result(size < MOST_BYTES, f"his list is below {MOST_BYTES} bytes ({size})")
+    found, _, _ = look(server, FLOODERS[-1])
+    mine = [shown(long(FLOODERS[-1]), number, ANNA) for number in range(EACH - OWN + 1, EACH + 1)]
+    check("the last challenger's list has his last hundred, then the one that he received",
+          [*mine, shown(ANNA, 1, long(FLOODERS[-1]))], found["challenges"])
+    found, _, _ = look(server, "first")
+    check("a member who challenged nobody and was not challenged has an empty list", ([], {"from": 0, "to": 0}),
+          (found["challenges"], found["more"]))
     check("one more member challenges anna", {200}, challenge(server, "first", [7], ANNA))
     found, _, _ = look(server, "anna")
     check("all challengers are listed, a hundred challenges in all",
           [own, shown(FIRST, 7, ANNA), *others[:ALL - 1]], found["challenges"])
     check("one challenge more is left out", len(FLOODERS) * (EACH - LISTED) + 1, found["more"]["to"])
+    return found
+
+
+def indexed(folder, wanted):
+    """An index on the challenged member, as docs/operating.md has it, changes no list and no command."""
+    with contextlib.closing(sqlite3.connect(f"{folder}/c.db")) as file, file:
+        file.execute("CREATE INDEX by_other ON challenges (other)")
+    with serve(now=2000, folder=folder) as server:
+        found, _, _ = look(server, "anna")
+        check("with an index the list is the same", wanted, found)
+        check("a challenge is opened beside the index", {200}, challenge(server, "first", [8], ANNA))
+        found, _, _ = look(server, "anna")
+        check("it is counted", wanted["more"]["to"] + 1, found["more"]["to"])
+    check("the file with the index is sound", (0, "sound\n", ""), run(["c.db", "verify"], folder=folder))
 
 
 def main():
@@ -98,7 +122,8 @@ def main():
         status, _, err = run(["c.db", "batch", "-"], folder=folder, data="".join(f"{it}\n" for it in lines))
         check("a batch adds the members", (0, ""), (status, err))
         with serve(now=2000, folder=folder) as server:
-            flooded(server)
+            found = flooded(server)
+        indexed(folder, found)
     return exit_status()
 
 

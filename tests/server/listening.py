@@ -14,9 +14,9 @@ import tempfile
 import time
 
 sys.path[0] = str(pathlib.Path(__file__).resolve().parents[1])
-from lib.club import PROGRAM, WAIT, build_preload, club, create, is_within
+from lib.club import PROGRAM, WAIT, build_preload, club, create, is_within, run
 from lib.report import check, exit_status, result, skip
-from lib.server import SHOW_GAME, Server, free_port, serve
+from lib.server import SHOW_GAME, Server, free_port, receive, serve
 
 SOCKET, FOLDER = "c.db-desk", "c.db-sk"
 OWNER, OTHER, GROUP = 61001, 61002, 61003  # the numbers of two users, and of a group
@@ -36,6 +36,51 @@ def is_refused(address, port):
     return False
 
 
+def has_ipv6():
+    """Whether this machine has the address ::1."""
+    try:
+        socket.create_server(("::1", 0), family=socket.AF_INET6).close()
+    except OSError:
+        return False
+    return True
+
+
+def ipv6():
+    """The other address of `localhost` is the server's, too, and is nobody else's."""
+    if not has_ipv6():
+        skip("the server at ::1", "this machine has no IPv6")
+        return
+    with serve() as server:
+        with socket.create_connection(("::1", server.port), WAIT) as connection:
+            connection.sendall(SHOW_GAME)
+            check("a game is shown at ::1", 200, int(receive(connection).split()[1]))
+        check("a game is shown at 127.0.0.1", 200, shown(server))
+        result(not can_listen("::1", server.port), "nobody else can listen there")
+    with socket.create_server(("::1", 0), family=socket.AF_INET6) as other:
+        port = other.getsockname()[1]
+        status, out, error = run(["c.db", "serve", "--count", "0", port])
+        check("a port that is taken at ::1 is fault 76", (3, "", "store 76 Input\n"), (status, out, error))
+    check("the port is free at 127.0.0.1 then", True, can_listen("127.0.0.1", port))
+
+
+def can_listen(address, port):
+    """Whether a program can listen there."""
+    try:
+        socket.create_server((address, port), family=socket.AF_INET6 if ":" in address else socket.AF_INET).close()
+    except OSError:
+        return False
+    return True
+
+
+def without_ipv6():
+    """A server that may not use IPv6 goes on without."""
+    library = build_preload(".", "no_ipv6")
+    for number in 97, 99:  # EAFNOSUPPORT, EADDRNOTAVAIL
+        with serve(env={**os.environ, "LD_PRELOAD": library, "NO_IPV6": str(number)}) as server:
+            check(f"a server serves on a machine without IPv6 (error {number})", 200, shown(server))
+            check(f"nobody listens at ::1 then (error {number})", True, is_refused("::1", server.port))
+
+
 def addresses():
     """What the server does with each socket before others can connect to it."""
     library = build_preload(".", "log_listen")
@@ -47,7 +92,7 @@ def addresses():
         check("the folder in which the socket was made is gone", False, os.path.exists(FOLDER))
     tcp = [line[1:] for line in lines if line[0] == "tcp"]
     modes = [[int(it, 8) for it in line[1:]] for line in lines if line[0] == "unix"]
-    check("the server listens on 127.0.0.1 alone", [["127.0.0.1"]], tcp)
+    check("the server listens on 127.0.0.1 and on ::1 alone", [["127.0.0.1"], *[["::1"]] * has_ipv6()], tcp)
     check("the control socket is one socket", 1, len(modes))
     check("nobody but the owner can connect when the control socket begins to listen", [],
           [it for it in modes if it[0] & 0o077 and it[1] & 0o077])
@@ -142,6 +187,8 @@ def main():
         os.chdir(folder)
         create()
         addresses()
+        ipv6()
+        without_ipv6()
         folders()
         paths()
         groups()

@@ -23,6 +23,7 @@ from lib.report import check, exit_status, result
 from lib.server import KEYS, serve
 from models import shogi
 from models.club import NAMES, status_of
+from models.routes import ROUTES
 
 DESCRIPTION = TOP / "docs/openapi.json"
 NOW, BUDGET, SHORT = 2000, 86400, 60  # the server's timestamp; the budgets of the events, of which one is used up
@@ -208,11 +209,41 @@ def ask(calls, ids):
     for event in ("autumn", "fuji", "short", "empty"):
         calls.call("getTable", name=event)
         calls.call("listEventGames", name=event)
+        calls.call("getStandings", name=event)
     for member in ("anna", "bert", "cara"):
         calls.call("getMe", key=member)
         calls.call("listEndedGames", key=member)
         calls.call("listEvents", key=member)
     calls.call("getPage", key=None)
+
+
+def analyse(calls, ids):
+    """Moves that are tried: from each start, and each refusal."""
+    def tried(expected, kind, body, key="anna"):
+        return calls.call(f"analyse{kind.title()}", expected, key, body)
+
+    starts = {"draughts": (ids["plain"], "W:WK47:BK4", "W:W33:BK1."),
+              "shogi": (ids["late_shogi"], "k8/9/1G7/9/9/9/9/9/K8 b G", "k8/9/9/9/9/9/9/9/K7K b -")}
+    for kind, (game, position, unread) in starts.items():
+        for body in (b"", b"no JSON", b"[]", b"\xff", {}, *({"moves": it} for it in (None, 7, {}, "x", ["x", 1]))):
+            tried(81, kind, body)
+        for body in ({}, {"position": position}, {"game": game, "ply": 0}):
+            tried(200, kind, body | {"moves": []})
+        other = next(it for of, (it, _, _) in starts.items() if of != kind)
+        for number in (0, 5000, other):
+            tried(53, kind, {"game": number, "ply": 0, "moves": []})
+        tried(65, kind, {"game": game, "ply": 600, "moves": []})
+        tried(65, kind, {"moves": ["x"] * 65})
+        tried(65, kind, {"moves": ["3" * 201]})
+        tried(30 if kind == "shogi" else 20, kind, {"position": unread, "moves": []})
+        for body in ({"position": 1}, {"position": position, "game": game, "ply": 0}, {"game": game}, {"ply": 0}):
+            tried(81, kind, body | {"moves": []})
+    for number, kind, moves, text in refused_lines():
+        tried(number, kind, {"moves": [*moves, text]})
+    tried(200, "draughts", {"position": "B:W33:B", "moves": []})
+    tried(200, "shogi", {"position": starts["shogi"][1], "moves": ["G*9b"]})
+    tried(56, "draughts", {"position": "B:W33:B", "moves": ["1-6"]})
+    tried(56, "shogi", {"position": starts["shogi"][1], "moves": ["G*9b", "9a8a"]})
 
 
 def play(calls, ids):
@@ -350,6 +381,7 @@ def call_all(description):
         end_games(calls, ids)
         challenge(calls)
         ask(calls, ids)
+        analyse(calls, ids)
     check("the club is sound after all requests", (0, "sound"), club("c.db", "verify", now=NOW))
     status, printed = club("c.db", "seat", "late", "autumn", "anna", "bert", now=LAST_MOMENT)
     check("a game is created in the last second", 0, status)
@@ -369,10 +401,19 @@ def routes_of_server():
             for path, method in re.findall(r'\(\s*"(/[^"]*)",\s*(Get|Post),', table)}
 
 
+def with_braces(path):
+    """A path whose parameters are in capitals, as the route table has it."""
+    return re.sub(r"/([A-Z]+)(?=/|$)", lambda it: f"/{{{it[1].lower()}}}", path)
+
+
 def routes_of_prose():
     text = (TOP / "docs/http.md").read_text()
-    return {(method.lower(), re.sub(r"/([A-Z]+)(?=/|$)", lambda it: f"/{{{it[1].lower()}}}", path))
+    return {(method.lower(), with_braces(path))
             for method, path in re.findall(r"\b(GET|POST)\W{1,5}`(/[^`\s]+)`", text)}
+
+
+def routes_of_models():
+    return {(it.method.lower(), with_braces(it.path)) for it in ROUTES}
 
 
 def error_problems(document):
@@ -486,6 +527,7 @@ def main():
     check("its errors have the names and the statuses of the rules", [], error_problems(document))
     check("its routes are those of the server's table", [], route_problems(document))
     check("the server's routes are those of docs/http.md", [], sorted(map(str, routes_of_server() ^ routes_of_prose())))
+    check("the server's routes are those of tests/models", [], sorted(map(str, routes_of_server() ^ routes_of_models())))
     description = Description(document)
     with tempfile.TemporaryDirectory(dir=FAST) as folder, contextlib.chdir(folder):
         calls = call_all(description)

@@ -57,7 +57,7 @@ _club_command() { # COMMAND: sets its options and the kinds of its arguments
         verify) options='-h --help' valued='' arguments=() ;;
         upgrade) options='-h --help' valued='' arguments=() ;;
         backup) options='-h --help' valued='' arguments=('file') ;;
-        serve) options='--log --count -h --help' valued='--count' arguments=('-') ;;
+        serve) options='--log --count --host -h --help' valued='--count --host' arguments=('-') ;;
         *) return 1 ;;
     esac
 }

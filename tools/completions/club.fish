@@ -4,7 +4,7 @@ function __club_words # the words of the line that are no options and no values 
     for word in (commandline -opc)[2..-1]
         if test $skip = yes
             set skip no
-        else if contains -- $word --now --part --event --member --count
+        else if contains -- $word --now --part --event --member --count --host
             set skip yes
         else if not string match -q -- '-?*' $word
             echo $word
@@ -87,4 +87,5 @@ complete -c club -n '__club_is_at 2 backup' -F
 complete -c club -n '__club_is_at 1' -a serve -d 'Answers members over HTTP, one connection after another'
 complete -c club -n '__club_is_in serve' -l log -d 'Writes a line for each connection: moment, method, path and status, and no key'
 complete -c club -n '__club_is_in serve' -l count -x -d 'Ends after so many connections'
+complete -c club -n '__club_is_in serve' -l host -x -d 'Answers only requests whose Host is a loopback address, localhost or a NAME so given, at any port'
 complete -c club -n '__club_is_in serve' -s h -l help -d 'Print help'

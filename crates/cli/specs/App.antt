@@ -2,7 +2,7 @@
 use Rattle.std.specs.Prelude.{◌≡◌, ℕ, List, [], ◌∷◌, map, Some, true, codes}
 use Rattle.std.specs.Borrow.{Bor}
 use Rattle.clap.specs.Words.{App, Rule, Text, new_app, new_rule, with_rule, with_subcommand}
-use Rattle.clap.specs.declared.builder.action.ArgAction.TheVariants.{Set, SetTrue}
+use Rattle.clap.specs.declared.builder.action.ArgAction.TheVariants.{Set, SetTrue, Append}
 use Rattle.clap.specs.declared.builder.value_parser.ValueParser.{ValueParser}
 use Rattle.clap.specs.declared.builder.value_parser.ValueParser.TheVariants as parser
 
@@ -27,6 +27,10 @@ given_as kind id long = record (given_by id long) { parser = Some kind }
 -- option whose value has its own name in help
 abbrev pub named_by : (id long : Text) → Rule
 named_by id long = record (given_by id long) { value_names = 1 }
+
+-- the same option, which may be repeated
+abbrev pub repeated_by : (id long : Text) → Rule
+repeated_by id long = record (named_by id long) { action = Some Append }
 
 -- option without a value
 abbrev pub flag : (id long : Text) → Rule
@@ -157,8 +161,10 @@ abbrev pub serve_app : App
 serve_app =
     with_rule
     (with_rule
+    (with_rule
     (with_rule (new_app (codes "serve")) (flag (codes "LOG") (codes "log")))
     (given_as a_number (codes "COUNT") (codes "count")))
+    (repeated_by (codes "HOST") (codes "host")))
     (required_as a_port (codes "PORT"))
 
 -- ---- the program

@@ -1,8 +1,9 @@
 -- The meaning of the command line, in terms of the texts that the parser found.
 use Rattle.std.specs.Prelude.{◌≡◌, ◌≢◌, ◌⊎◌, ◌<◌, ◌≤◌, ◌^◌, ℕ, Bool, List, [], ◌∷◌, Option, Some, None}
 use Rattle.std.specs.Prelude.{option_map, unwrap_or}
-use Rattle.std.specs.Prelude.{codes, string_bytes, if◌then◌else◌, ◌||◌, true, false, map}
-use Rattle.std.specs.List.{list_any}
+use Rattle.std.specs.Prelude.{codes, string_bytes, if◌then◌else◌, ◌||◌, ◌&&◌, ◌==◌, nat_lt, length, true, false, map}
+use Rattle.std.specs.Char.{is_ascii_alphanumeric}
+use Rattle.std.specs.List.{list_all, list_any}
 use Rattle.std.specs.Str.{bytes_eq}
 use Rattle.std.specs.Str.Parse.{IsNumeral, digits_value, without_leading_plus}
 use Rattle.clap.specs.Words.{first_value, matched_of, one_text, raw_values}
@@ -179,6 +180,7 @@ pub record AsksService (all found : Found) (service : ServeOptions) : Type 0 whe
   pub port : IsNumberIn found (codes "PORT") 0 service.port
   pub count : IsNumberIn found (codes "COUNT") 18446744073709551615 service.count
   pub log : IsFlagIn found (codes "LOG") service.log
+  pub hosts : map string_bytes service.hosts.items ≡ texts_in found (codes "HOST")
   pub explains : IsFlagIn all (codes "EXPLAIN") service.explains
 
 -- the arguments of `batch` state these options
@@ -240,6 +242,22 @@ AsksForBoth found = IsFlagIn found (codes "RUNNING") true × IsFlagIn found (cod
 abbrev pub HasNoPort : Found → Type 0
 HasNoPort found = (port : ℕ) × IsNumberIn found (codes "PORT") 0 port × (65535 < port)
 
+-- a byte of a host name
+abbrev pub is_host_byte : ℕ → Bool
+is_host_byte c = is_ascii_alphanumeric c || c == 46 || c == 95 || c == 45
+
+-- 1 to 253 letters, digits, `.`, `_` or `-`
+abbrev pub is_host_name : List ℕ → Bool
+is_host_name text = nat_lt 0 (length text) && nat_lt (length text) 254 && list_all is_host_byte text
+
+-- a value of `--host` is no host name
+abbrev pub HasBadHost : Found → Type 0
+HasBadHost found = list_all is_host_name (texts_in found (codes "HOST")) ≡ false
+
+-- the arguments of `serve` state no options
+abbrev pub HasNoService : Found → Type 0
+HasNoService found = HasNoPort found ⊎ HasBadHost found
+
 -- the subcommand is no valid command to the club
 abbrev pub HasNoCommand : List ℕ → Found → Type 0
 HasNoCommand name found = IsOther command_names name ⊎ ((name ≡ codes "event") × HasNoGame found)
@@ -249,7 +267,8 @@ abbrev pub HasNoTask : List ℕ → Found → Type 0
 HasNoTask name found = (IsOther task_names name × HasNoCommand name found)
     ⊎ ((name ≡ codes "games") × AsksForBoth found)
 
--- The arguments that the parser found are not valid. The grammar excludes all cases but the two exclusive flags.
+-- The arguments that the parser found are not valid. The grammar excludes all cases but the two exclusive flags
+-- and the host names.
 abbrev pub HasNoOrder : List ℕ → Found → Type 0
 HasNoOrder name found = (IsOther other_names name × HasNoTask name found)
-    ⊎ ((name ≡ codes "serve") × HasNoPort found)
+    ⊎ ((name ≡ codes "serve") × HasNoService found)

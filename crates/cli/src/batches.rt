@@ -86,7 +86,11 @@ pub(crate) fn batch_of(
 }
 
 // Copies of the values of an argument that may be repeated.
-fn texts(alloc: Global, words: &ArgMatches<'_>, name: &str) -> Result<Vec<String>, AllocError>
+pub(crate) fn texts(
+    alloc: Global,
+    words: &ArgMatches<'_>,
+    name: &str,
+) -> Result<Vec<String>, AllocError>
     ensures { IfOk result (λ texts. map string_bytes texts.items ≡ texts_in (found_of words.now) name.now) }
 {
     let given = match words.get_strs(name) {

@@ -2,7 +2,8 @@
 
 ghost use Rattle.std.specs.Prelude.{◌≡◌, IfOk, true};
 ghost use Rattle.clap.specs.Words.{App, Rule, new_app, with_rule};
-ghost use Rattle.cli.specs.App.{a_number, flag, given_as, named_by, required, required_as, with_sub};
+ghost use Rattle.cli.specs.App.{a_number, flag, given_as, named_by, repeated_by, required, required_as};
+ghost use Rattle.cli.specs.App.{with_sub};
 ghost use Rattle.cli.specs.internal.Built.{IsApp, IsRule};
 
 use clap::{Arg, ArgAction, value_parser};
@@ -50,6 +51,18 @@ pub(crate) fn name_option<'a>(alloc: Global, name: &'a str, long: &'a str, help:
         .value_name("NAME")
         .help(help)
         .action(ArgAction::Set)
+}
+
+/// An option whose value is shown as NAME in help, and which may be repeated.
+pub(crate) fn repeated_option<'a>(
+    alloc: Global,
+    name: &'a str,
+    long: &'a str,
+    help: &'a str,
+) -> Arg<'a>
+    ensures { IsRule (repeated_by name.entry.now long.entry.now) result }
+{
+    name_option(alloc, name, long, help).action(ArgAction::Append)
 }
 
 /// An option without a value.

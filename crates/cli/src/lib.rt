@@ -14,6 +14,7 @@
 
 pub mod batches;
 mod building;
+mod hosts;
 mod parser;
 pub mod words;
 

@@ -14,7 +14,8 @@ ghost use Rattle.cli.specs.App.{with_orders_app, with_round_robin_flags_app};
 ghost use Rattle.cli.specs.internal.Built.{IsApp, IsAppOf, IsRule};
 
 use crate::building::{
-    add_subcommand, flag, name_option, number, number_option, subcommand, with_word, word,
+    add_subcommand, flag, name_option, number, number_option, repeated_option, subcommand,
+    with_word, word,
 };
 use clap::{Arg, ArgAction, value_parser};
 use std::alloc::{AllocError, Global};
@@ -399,6 +400,15 @@ fn serve_words<'a>(alloc: Global) -> Result<clap::Command<'a>, AllocError>
     let words = with_word(
         words,
         number_option(alloc, "COUNT", "count", "Ends after so many connections"),
+    )?;
+    let words = with_word(
+        words,
+        repeated_option(
+            alloc,
+            "HOST",
+            "host",
+            "Answers only requests whose Host is a loopback address, localhost or a NAME so given, at any port",
+        ),
     )?;
     with_word(words, port_word(alloc))
 }

@@ -4,14 +4,15 @@ ghost use Rattle.std.specs.Prelude.{◌≡◌, IfErr, IfNone, IfOk, IfSome, Some
 ghost use Rattle.clap.specs.Words.{first_value, found_of, kind_of};
 ghost use Rattle.cli.specs.Asked.{Asks, AsksCommand, AsksImport, AsksQuestion, AsksService, AsksTask};
 ghost use Rattle.cli.specs.Asked.{AreListed, AreShownOf, IsFlagIn, IsMomentIn, IsNumberIn, game_word};
-ghost use Rattle.cli.specs.Asked.{AsksForBoth, HasNoCommand, HasNoGame, HasNoOrder, HasNoPort, HasNoTask};
+ghost use Rattle.cli.specs.Asked.{AsksForBoth, HasNoCommand, HasNoGame, HasNoOrder, HasNoService, HasNoTask};
 ghost use Rattle.cli.specs.Asked.{AsksOrder, record_word, text_in, which_of};
 ghost use Rattle.cli.specs.internal.Asked.{IsTold, IsParserErrorFor};
 ghost use Rattle.cli.specs.internal.Imports.{with_text, task_with};
 ghost use Rattle.cli.specs.Said.{AreRefused, StatesInvocation};
 ghost use Rattle.cli.specs.internal.Said.{FindsNone, IsFound, IsParserErrorOf};
 
-use crate::batches::{Batch, BatchOptions, RoundRobin, batch_of, round_robin_of};
+use crate::batches::{Batch, BatchOptions, RoundRobin, batch_of, round_robin_of, texts};
+use crate::hosts::{are_host_names, bad_host};
 use crate::parser::club_words;
 use clap::ArgMatches;
 use clap::error::ErrorKind;
@@ -89,6 +90,8 @@ pub struct ServeOptions {
     pub count: u64,
     /// Whether to log each connection.
     pub log: bool,
+    /// The host names for which it answers, beside the loopback names and addresses; empty: for all.
+    pub hosts: Vec<String>,
     /// Explain a fault on a second line (`--explain`).
     pub explains: bool,
 }
@@ -406,6 +409,25 @@ fn task_of(alloc: Global, name: &str, words: &ArgMatches<'_>) -> Result<Task, Ba
     }
 }
 
+// The parser's message. What it says of a number that cannot be read is put into an officer's words.
+fn in_plain_words(alloc: Global, message: &str) -> Result<String, AllocError> {
+    let text = message.replace(
+        alloc,
+        "invalid digit found in string",
+        "it must be a whole number",
+    )?;
+    let text = text.replace(
+        alloc,
+        "cannot parse integer from empty string",
+        "it must be a whole number",
+    )?;
+    text.replace(
+        alloc,
+        "number too large to fit in target type",
+        "the number is too large",
+    )
+}
+
 // The error or output of the parser.
 pub(crate) fn usage_error(alloc: Global, error: &clap::Error) -> BadWords
     ensures { IsParserErrorOf (kind_of error.now) result }
@@ -413,31 +435,41 @@ pub(crate) fn usage_error(alloc: Global, error: &clap::Error) -> BadWords
     if error.kind() == ErrorKind::OutOfMemory {
         return BadWords::Memory;
     }
-    match error.to_string(alloc) {
-        Ok(text) if error.kind() == ErrorKind::DisplayVersion => BadWords::Version(text),
+    let Ok(text) = error.to_string(alloc) else {
+        return BadWords::Memory;
+    };
+    if error.kind() == ErrorKind::DisplayVersion {
+        return BadWords::Version(text);
+    }
+    match in_plain_words(alloc, text.as_str()) {
         Ok(text) => BadWords::Text(text),
         Err(_) => BadWords::Memory,
     }
 }
 
-// The options of `serve`. The parser has checked the port.
+// The options of `serve`. The parser has checked the port, and not the host names.
 fn service_of(
     alloc: Global,
     all: &ArgMatches<'_>,
     words: &ArgMatches<'_>,
 ) -> Result<ServeOptions, BadWords>
     ensures ok { IfOk result (AsksService (found_of all.now) (found_of words.now)) }
-    ensures err { IfErr result (IsParserErrorFor (HasNoPort (found_of words.now))) }
+    ensures err { IfErr result (IsParserErrorFor (HasNoService (found_of words.now))) }
 {
     let Ok(port) = u16::try_from(number_of(words, "PORT")) else {
         return Err(unknown(alloc, "PORT"));
     };
+    let hosts = texts(alloc, words, "HOST")?;
+    if !are_host_names(&hosts) {
+        return Err(bad_host(alloc));
+    }
     Ok(ServeOptions {
         file: text(alloc, all, "FILE")?,
         now: moment_of(all),
         port,
         count: number_or(words, "COUNT", u64::MAX),
         log: words.get_flag("LOG"),
+        hosts,
         explains: is_explained(all),
     })
 }
@@ -465,7 +497,7 @@ fn serve_of(
     words: &ArgMatches<'_>,
 ) -> Result<Invocation, BadWords>
     ensures ok { IfOk result (Asks (found_of all.now) (codes "serve") (found_of words.now)) }
-    ensures err { IfErr result (IsParserErrorFor (HasNoPort (found_of words.now))) }
+    ensures err { IfErr result (IsParserErrorFor (HasNoService (found_of words.now))) }
 {
     match service_of(alloc, all, words) {
         Ok(service) => Ok(Invocation::Serve(service)),

@@ -9,15 +9,13 @@ use Rattle.sqlite_trees.proofs.ListLemmas.{ascending-append, all_weaker}
 use Rattle.sqlite_rules.specs.Lists.{Has}
 use Rattle.sqlite_rules.proofs.ListLemmas.{all_has, has_got}
 use Rattle.club_core.specs.declared.challenges.Challenge.{Challenge}
-use Rattle.club_rows.specs.Club.{ClubState, tables}
 use Rattle.club_rows.specs.Tables.{challenge_row}
-use Rattle.club_rows.proofs.Proved.{challenges-alike, mapped_had, mapped_has}
+use Rattle.club_rows.proofs.Proved.{challenges-alike, mapped_had}
 use Rattle.store_tables.specs.internal.Cells.{challenge_cells}
-use Rattle.store_tables.specs.Changes.{HaveSame}
 use Rattle.store_tables.specs.declared.rows.ChallengeRow.{ChallengeRow}
-use Rattle.club_answers.specs.Challenges.{AreChallengesOf, ComesBefore}
+use Rattle.club_answers.specs.Challenges.{ComesBefore}
 
-before_then : (a b c : Challenge) → ComesBefore a b → ComesBefore b c → ComesBefore a c
+pub before_then : (a b c : Challenge) → ComesBefore a b → ComesBefore b c → ComesBefore a c
 before_then a b c one two = grind (arith, one, two)
 
 -- what comes after the last one comes after all
@@ -51,15 +49,6 @@ more_read rows k d done news x so_far within tells more =
     (ap (λ r. map challenge_row done ++ r ∷ []) tells)
 
 -- a challenge whose row is among those of others is one of them
-among : (others : List Challenge) (x : Challenge) → Has (map challenge_row others) (challenge_row x) → Has others x
+pub among : (others : List Challenge) (x : Challenge) → Has (map challenge_row others) (challenge_row x) → Has others x
 among others x row =
     let (y, had, alike) = mapped_had challenge_row others (challenge_row x) row in rw (challenges-alike x y alike) had
-
-pub challenges_are : (s : ClubState) (rows : List ChallengeRow) (all : List Challenge)
-    → HaveSame (map challenge_cells rows) (tables s 6) → map challenge_cells rows ≡ map challenge_row all
-    → IsAscending ComesBefore all → AreChallengesOf s all
-challenges_are s rows all same is up = record {
-  there = λ x has. among s.challenges x (same.there (challenge_row x) (rw is (mapped_has challenge_row all x has)));
-  back = λ x has. among all x (rw is at (same.back (challenge_row x) (mapped_has challenge_row s.challenges x has)));
-  order = up;
-}

@@ -1,6 +1,6 @@
 -- The cross table of an event, by the rows that are found for it.
 use Rattle.std.proofs.Common.{◌≡◌, ℕ, zero, suc, ◌+◌, List, [], ◌∷◌, length, map, Option, Some, None, true, refl}
-use Rattle.std.proofs.Common.{ap, sym, ◌∙◌, arith, inl, inr, true≢false, ◌≤◌}
+use Rattle.std.proofs.Common.{ap, sym, ◌∙◌, arith, true≢false, ◌≤◌}
 use Rattle.std.proofs.lemmas.Option.{same_Some}
 use Rattle.std.specs.Prelude.{slice_get, Result, Ok, Err, IfOk}
 use Rattle.std.specs.List.{AllByRecursion}
@@ -25,6 +25,7 @@ use Rattle.cross_tables.proofs.Proved.{only-one}
 use Rattle.store_tables.specs.Content.{same_key}
 use Rattle.store_tables.specs.internal.Contents.{AreThose}
 use Rattle.store_tables.proofs.Proved.{equal_cmp, equal_from}
+use Rattle.club_answers.proofs.OneOrder.{one_order}
 use Rattle.club_answers.specs.CrossTable.{scored_row, AreScoresIn, AreTableRows, ComesBefore, IsCrossTable}
 use Rattle.club_changes.proofs.Proved.{numbered_had, numbered_has, ids_agree, place_at}
 
@@ -91,32 +92,8 @@ after_last (x ∷ rest) (suc n) last next count at before up =
     let below = all_has (ComesBefore x) rest last up.0 (has_got rest n last at) in
     (grind (arith, below, before), after_last rest n last next (omega (arith, count)) at before up.1)
 
--- ---- two lists of the same scores in their order
-
-same_head : (x y : OpponentScore) (xs ys : List OpponentScore) → IsAscending ComesBefore (x ∷ xs) → IsAscending ComesBefore (y ∷ ys)
-    → Has (y ∷ ys) x → Has (x ∷ xs) y → x ≡ y
-same_head x y xs ys up over (inl same) k = same
-same_head x y xs ys up over (inr h) (inl same) = sym same
-same_head x y xs ys up over (inr h) (inr k) =
-    let below = all_has (ComesBefore x) xs y up.0 k in
-    let above = all_has (ComesBefore y) ys x over.0 h in
-    grind (arith, below, above)
-
-in_rest : (x z : OpponentScore) (xs ys : List OpponentScore) → IsAscending ComesBefore (x ∷ xs) → Has xs z → Has (x ∷ ys) z → Has ys z
-in_rest x z xs ys up h (inl e) = let below = rw e at (all_has (ComesBefore x) xs z up.0 h) in
-    absurd (grind (arith, below))
-in_rest x z xs ys up h (inr k) = k
-
-one_order : (xs ys : List OpponentScore) → IsAscending ComesBefore xs → IsAscending ComesBefore ys
-    → ((z : OpponentScore) → Has xs z → Has ys z) → ((z : OpponentScore) → Has ys z → Has xs z) → xs ≡ ys
-one_order [] [] up over to from = refl
-one_order [] (y ∷ ys) up over to from = absurd (from y (inl refl))
-one_order (x ∷ xs) [] up over to from = absurd (to x (inl refl))
-one_order (x ∷ xs) (y ∷ ys) up over to from =
-    let same : x ≡ y = same_head x y xs ys up over (to x (inl refl)) (from y (inl refl)) in
-    let rest : xs ≡ ys = one_order xs ys up.1 over.1 (λ z h. in_rest x z xs ys up h (rw (← same) at (to z (inr h))))
-    (λ z h. in_rest y z ys xs over h (rw same at (from z (inr h)))) in
-    λ i. same i ∷ rest i
+one_way : (x y : OpponentScore) → ComesBefore x y → ComesBefore y x → ⊥
+one_way x y below above = grind (arith, below, above)
 
 -- ---- the scores of an event
 
@@ -139,15 +116,19 @@ pub both_ok : {T E : Type 0} {P Q R : T → Type 0} (r : Result T E) → IfOk r 
 both_ok (Ok x) p q f = f x p q
 both_ok (Err e) p q f = tt
 
+-- there are no others
+pub scores_one : (s : ClubState) (event : ℕ) (scores others : List OpponentScore) → AreScoresIn s event scores
+    → AreScoresIn s event others → scores ≡ others
+scores_one s event scores others one two =
+    one_order ComesBefore one_way scores others one.order two.order (λ x h. two.back x (one.there x h)) (λ x h. one.back x (two.there x h))
+
 -- ---- one table
 
 lines_one : (s : ClubState) (event : ℕ) (name : List ℕ) (lines others : List (List ℕ)) → IsCrossTable s event name lines
     → IsCrossTable s event name others → lines ≡ others
 lines_one s event name lines others one two =
     let scores : one.scores ≡ two.scores =
-    one_order one.scores two.scores one.scores_are.order two.scores_are.order
-    (λ x h. two.scores_are.back x (one.scores_are.there x h)) (λ x h. one.scores_are.back x (two.scores_are.there x h))
-    in
+    scores_one s event one.scores two.scores one.scores_are two.scores_are in
     let standings : one.standings ≡ two.standings =
     only-one one.standings two.standings two.scores (rw scores at one.totals) two.totals
     one.ranked two.ranked in

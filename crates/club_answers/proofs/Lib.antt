@@ -1,10 +1,14 @@
+mod AnalysisLemmas
 mod BoardLemmas
 mod CallLemmas
 mod ChallengeOrder
 pub mod CrossTableLemmas
+mod MemberChallenges
+mod OneOrder
 mod OverdueLemmas
 pub mod Proved
 mod RecordLemmas
 mod RunningLemmas
+pub mod StandingsLemmas
 mod ToldRows
 pub mod ViewedLemmas

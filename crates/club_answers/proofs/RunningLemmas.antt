@@ -40,7 +40,7 @@ module _ {P M E T : Type 0} (laws : GameRules P M E T) (terms : Terms) (id : ℕ
   row_text game (e ∷ es) (suc n) row same =
       rw (last-played laws game e.made e.moment) at (row_text (with_entry game e) es n row same)
 
-  written-length : (p : P) (ms : List M) → length (written_from laws p ms) ≡ length ms
+  pub written-length : (p : P) (ms : List M) → length (written_from laws p ms) ≡ length ms
   written-length p [] = refl
   written-length p (m ∷ ms) = ap suc (written-length (laws.play p m) ms)
 

@@ -78,7 +78,7 @@ module _ {P M E T : Type 0} {laws : GameRules P M E T} {kind : GameKind} (k : Ki
 
 module _ {P M E T : Type 0} (laws : GameRules P M E T) (terms : Terms) (id : ℕ) where
   -- the texts of rows of entries, one after another
-  texts_of : (game : Game M) (es : List (Entry M)) (rows : List MoveRow)
+  pub texts_of : (game : Game M) (es : List (Entry M)) (rows : List MoveRow)
       → map move_cells rows ≡ entry_rows laws terms id game es
       → map (λ r. string_bytes r.text) rows ≡ written_from laws (last_position laws game) (map (λ e. e.made) es)
   texts_of game [] [] same = refl

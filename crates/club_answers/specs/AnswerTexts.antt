@@ -3,6 +3,7 @@ use Rattle.std.specs.Prelude.{◌≡◌, ◌⊎◌, ℕ, List, [], ◌∷◌, �
 use Rattle.std.specs.Prelude.{codes, string_bytes, true, false}
 use Rattle.std.specs.Io.KnownBytes.{Appends}
 use Rattle.record_writer.specs.Pieces.{AppendsSome}
+use Rattle.club_requests.specs.Analysis.{analysis_view}
 use Rattle.club_requests.specs.declared.refusals.Refusal.{Refusal}
 use Rattle.club_requests.specs.declared.refusals.Refusal.TheVariants.{UnknownEvent, UnknownGame, UnknownKey}
 use Rattle.club_core.specs.State.{place}
@@ -14,8 +15,9 @@ use Rattle.club_requests.specs.declared.questions.Question.{Question}
 use Rattle.club_requests.specs.declared.questions.Question.TheVariants.{LegalMoves, CrossTable, Record}
 use Rattle.club_requests.specs.declared.questions.Question.TheVariants.{Members, Events, Games}
 use Rattle.club_requests.specs.declared.questions.Question.TheVariants.{MyGames, EndedGames, ChallengeChoices}
-use Rattle.club_requests.specs.declared.questions.Question.TheVariants.{EventGames, EventRecords, GameClock, GameJson}
-use Rattle.club_requests.specs.declared.questions.Question.TheVariants.{Board, GamePage, LegalMovesJson}
+use Rattle.club_requests.specs.declared.questions.Question.TheVariants.{EventGames, EventRecords, EventStandings}
+use Rattle.club_requests.specs.declared.questions.Question.TheVariants.{GameClock, GameJson}
+use Rattle.club_requests.specs.declared.questions.Question.TheVariants.{Board, GamePage, LegalMovesJson, Analysis}
 use Rattle.club_lists.specs.Lines.{member_lines, event_lines, AreGameLines}
 use Rattle.club_lists.specs.Listing.{listing_refusal}
 use Rattle.club_lists.specs.Clock.{clock_text}
@@ -25,10 +27,12 @@ use Rattle.club_lists.specs.Shows.{event_games_text, challenge_choices_json, my_
 use Rattle.club_core.specs.declared.challenges.Challenge.{Challenge}
 use Rattle.club_core.specs.Events.{event_kind, has_event_name}
 use Rattle.std.specs.List.{list_any}
+use Rattle.club_answers.specs.Analyses.{IsAnalysisText, IsNoAnalysis}
 use Rattle.club_answers.specs.Boards.{IsBoardText}
 use Rattle.club_answers.specs.GameBodies.{IsGameBody, IsMovesBody}
 use Rattle.club_answers.specs.Challenges.{AreChallengesOf}
 use Rattle.club_answers.specs.EventRecords.{AreEventRecords, BeginsRecords, ids_in}
+use Rattle.club_answers.specs.EventStandings.{IsStandingsText}
 use Rattle.club_answers.specs.Games.{effective_moment, game_summaries, game_summary_of}
 use Rattle.club_answers.specs.Pages.{IsPageText}
 use Rattle.club_answers.specs.Records.{IsRecordAt}
@@ -83,8 +87,8 @@ IsNoList s listing refusal = listing_refusal s.members s.events listing ≡ Some
 
 -- ---- the JSON of a member's games
 
--- the running games of the member with this key, the challenges that are listed for him with the numbers of those that
--- are left out, and the newest of his challenges that were refused
+-- The running games of the member with this key, the listed challenges by and to the member with the numbers of those
+-- that are left out, and the newest challenges by the member that were refused.
 abbrev pub IsMyGamesText : ClubState → ℕ → List ℕ → List ℕ → Type 0
 IsMyGamesText s moment key text =
     (name : List ℕ) × (Some name ≡ member_name_by_key key s.members) × (challenges : List Challenge)
@@ -104,7 +108,8 @@ IsNoKey s key refusal = (member_name_by_key key s.members ≡ None) × (refusal 
 -- the events, and the members whom the member with this key may challenge, as JSON
 abbrev pub IsChallengeChoicesText : ClubState → List ℕ → List ℕ → Type 0
 IsChallengeChoicesText s key text =
-    (name : List ℕ) × (Some name ≡ member_name_by_key key s.members) × (text ≡ challenge_choices_json key s.members s.events)
+    (name : List ℕ) × (Some name ≡ member_name_by_key key s.members)
+    × (text ≡ challenge_choices_json key s.members s.events)
 
 -- the games of the event with this name as JSON, if the event exists
 abbrev pub IsEventGamesText : ClubState → List ℕ → List ℕ → Type 0
@@ -148,12 +153,14 @@ IsText s moment (MyGames key) text = IsMyGamesText s moment (string_bytes key) t
 IsText s moment (EndedGames key) text = IsEndedGamesText s moment (string_bytes key) text
 IsText s moment (ChallengeChoices key) text = IsChallengeChoicesText s (string_bytes key) text
 IsText s moment (EventGames name) text = IsEventGamesText s (string_bytes name) text
+IsText s moment (EventStandings name) text = IsStandingsText s (string_bytes name) text
 IsText s moment (GameClock game) text = IsClockText s moment game text
 IsText s moment (GameJson game) text = IsGameBody s game text
 IsText s moment (GamePage game) text = IsPageText s moment game text
 IsText s moment (LegalMovesJson game) text = IsMovesBody s game text
 IsText s moment (Board game letters) text = IsBoardText s moment game letters text
 IsText s moment (EventRecords name) text = IsRecordsText s (string_bytes name) text
+IsText s moment (Analysis asked) text = IsAnalysisText s (analysis_view asked) text
 
 -- why a query is refused
 abbrev pub IsRefused : ClubState → Question → Refusal → Type 0
@@ -167,12 +174,14 @@ IsRefused s (MyGames key) refusal = IsNoKey s (string_bytes key) refusal
 IsRefused s (EndedGames key) refusal = IsNoKey s (string_bytes key) refusal
 IsRefused s (ChallengeChoices key) refusal = IsNoKey s (string_bytes key) refusal
 IsRefused s (EventGames name) refusal = IsNoEventNamed s (string_bytes name) refusal
+IsRefused s (EventStandings name) refusal = IsNoEvent s (string_bytes name) refusal
 IsRefused s (GameClock game) refusal = IsNoGame s game refusal
 IsRefused s (GameJson game) refusal = IsNoGame s game refusal
 IsRefused s (GamePage game) refusal = IsNoGame s game refusal
 IsRefused s (LegalMovesJson game) refusal = IsNoGame s game refusal
 IsRefused s (Board game letters) refusal = IsNoGame s game refusal
 IsRefused s (EventRecords name) refusal = IsNoEventNamed s (string_bytes name) refusal
+IsRefused s (Analysis asked) refusal = IsNoAnalysis s (analysis_view asked) refusal
 
 -- the answer to a query at this timestamp: a text or a refusal
 abbrev pub IsShown : ClubState → (moment : ℕ) → Question → Result (List ℕ) Refusal → Type 0
@@ -182,7 +191,8 @@ IsShown s moment question (Err refusal) = IsRefused s question refusal
 -- ---- the part of the answer that a writer has received
 
 -- the whole text was appended, or nothing if the query is refused
-abbrev pub HasWrittenAnswer : ClubState → (moment : ℕ) → Question → Option Refusal → Option (List ℕ) → Option (List ℕ) → Type 0
+abbrev pub HasWrittenAnswer : ClubState → (moment : ℕ) → Question → Option Refusal → Option (List ℕ) → Option (List ℕ)
+    → Type 0
 HasWrittenAnswer s moment question None before now =
     (text : List ℕ) × IsShown s moment question (Ok text) × Appends before now text
 HasWrittenAnswer s moment question (Some refusal) before now = IsShown s moment question (Err refusal) × (now ≡ before)

@@ -36,7 +36,8 @@ ComesBefore one other = (one.member < other.member) ⊎ ((one.member ≡ other.m
 
 -- the scores between members in the ended games of the event, in that order, each pair once
 pub record AreScoresIn (s : ClubState) (event : ℕ) (scores : List OpponentScore) : Type 0 where
-  pub there : (scored : OpponentScore) → Has scores scored → Has (scores_in both_games s.games) (scored_row event scored)
+  pub there : (scored : OpponentScore) → Has scores scored
+      → Has (scores_in both_games s.games) (scored_row event scored)
   pub back : (scored : OpponentScore) → Has (scores_in both_games s.games) (scored_row event scored) → Has scores scored
   pub order : IsAscending ComesBefore scores
 

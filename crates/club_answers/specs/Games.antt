@@ -36,8 +36,10 @@ module _ {P M E T : Type 0} (rules : GameRules P M E T) where
 
 -- the entry of a game of the club
 abbrev pub game_summary_of : ClubState → ℕ → ClubGame → GameSummary
-game_summary_of s id (draughts game) = game_summary_by_rules both_games.draughts (terms_at (place s.events game.event)) id game
-game_summary_of s id (shogi game) = game_summary_by_rules both_games.shogi (terms_at (place s.events game.event)) id game
+game_summary_of s id (draughts game) =
+    game_summary_by_rules both_games.draughts (terms_at (place s.events game.event)) id game
+game_summary_of s id (shogi game) =
+    game_summary_by_rules both_games.shogi (terms_at (place s.events game.event)) id game
 
 -- the entries of games whose ids count up from this one
 abbrev pub game_summaries_from : ClubState → ℕ → List ClubGame → List GameSummary

@@ -1,8 +1,10 @@
 pub mod AnswerTexts
+pub mod Analyses
 pub mod Boards
 pub mod Challenges
 pub mod CrossTable
 pub mod EventRecords
+pub mod EventStandings
 pub mod Exported
 pub mod GameBodies
 pub mod Games

@@ -1,3 +1,5 @@
+pub mod Analyses
+pub mod Challenges
 pub mod CrossTable
 pub mod Exported
 pub mod Found

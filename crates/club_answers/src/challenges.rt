@@ -1,7 +1,8 @@
-//! Reads the challenges of a club.
+//! Reads the challenges of a member.
 
-ghost use Rattle.std.specs.Prelude.{◌≡◌, true, map, IfOk, is_ok};
+ghost use Rattle.std.specs.Prelude.{◌≡◌, ◌++◌, true, pos, map, IfOk, is_ok};
 ghost use Rattle.std.specs.List.{AllByRecursion};
+ghost use Rattle.std.specs.List.Sorted.{IsPermutation};
 ghost use Rattle.sqlite_trees.specs.Tree.{IsAscending};
 ghost use Rattle.sqlite.specs.State.{HasCleanDisk};
 ghost use Rattle.sqlite.specs.Held.{state};
@@ -10,14 +11,15 @@ ghost use Rattle.store_tables.specs.Reading.{Reads};
 ghost use Rattle.club_rows.specs.Club.{ClubState, tables};
 ghost use Rattle.club_rows.specs.Tables.{challenge_row};
 ghost use Rattle.store_tables.specs.internal.Cells.{challenge_cells};
-ghost use Rattle.club_answers.specs.Challenges.{AreChallengesOf, ComesBefore};
+ghost use Rattle.club_answers.specs.Challenges.{ComesBefore};
+ghost use Rattle.club_answers.specs.internal.Challenges.{AreChallengesWith};
 
 use club_core::Challenge;
 use club_reads::LookupFault;
 use club_rows::challenge_of;
 use sqlite::{Alter, Connection};
-use std::alloc::Global;
-use store_sql::list;
+use std::alloc::{AllocError, Global};
+use store_sql::{ChallengesTo, find_by_column, find_by_first};
 use store_tables::ChallengeRow;
 
 // Order by challenger, then by number.
@@ -67,15 +69,42 @@ fn challenges_in(alloc: Global, rows: &[ChallengeRow]) -> Result<Vec<Challenge>,
     Ok(challenges)
 }
 
-/// All challenges, sorted by challenger, then by number.
-pub(crate) fn all_challenges<S: Alter>(
+// The query for the challenges to a member.
+fn question_of(member: u32) -> ChallengesTo
+    ensures { result.member ≡ pos member }
+{
+    ChallengesTo {
+        member: i64::from(member),
+    }
+}
+
+// The rows of both lists, sorted by challenger, then by number.
+fn merge(
+    own: Vec<ChallengeRow>,
+    received: Vec<ChallengeRow>,
+) -> Result<Vec<ChallengeRow>, AllocError>
+    ensures { IfOk result (λ rows. IsPermutation (own.items ++ received.items) rows.items) }
+{
+    let mut rows = own;
+    let mut received = received;
+    rows.append(&mut received)?;
+    rows.sort_unstable_by_key(|row| (row.member, row.number));
+    Ok(rows)
+}
+
+/// The challenges by and to the member with this id, sorted by challenger, then by number.
+pub(crate) fn challenges_of_member<S: Alter>(
     alloc: Global,
     conn: &mut Connection<S>,
+    member: u32,
 ) -> Result<Vec<Challenge>, LookupFault>
     ensures reads { Reads (is_ok result) (state S.Store conn.old) (state S.Store conn.new) }
     ensures found { HasCleanDisk (state S.Store conn.new) → IfOk result (λ found. (s : ClubState) →
-        HasRows (tables s) (state S.Store conn.old) → AreChallengesOf s found.items) }
+        HasRows (tables s) (state S.Store conn.old) → AreChallengesWith s member found.items) }
 {
-    let rows = list::<ChallengeRow, S>(alloc, conn)?;
+    let id = i64::from(member);
+    let own = find_by_first::<ChallengeRow, S>(alloc, conn, &id)?;
+    let received = find_by_column(alloc, conn, &question_of(member))?;
+    let rows = merge(own, received)?;
     challenges_in(alloc, &rows)
 }

@@ -38,8 +38,8 @@ fn event_in(row: &EventRow) -> Result<u32, LookupFault>
     }
 }
 
-// The id of the event with this name, if any.
-fn event_named<S: Alter>(
+/// The id of the event with this name, if any.
+pub(crate) fn event_named<S: Alter>(
     alloc: Global,
     conn: &mut Connection<S>,
     name: &str,
@@ -54,8 +54,8 @@ fn event_named<S: Alter>(
     }
 }
 
-// The scores between the members of this event.
-fn scores_in<S: Alter>(
+/// The scores between the members of this event.
+pub(crate) fn scores_in<S: Alter>(
     alloc: Global,
     conn: &mut Connection<S>,
     event: u32,

@@ -97,7 +97,7 @@ fn write_row<R: WriteRecord, W: Write>(
     writer: &mut W,
 ) -> Result<(), ViewFault>
     requires { IsUnderWay R.rules R.HasWritten (W.contents writer.old) export.old }
-    ensures stays_open { OnOk result (IsUnderWay R.rules R.HasWritten (W.contents writer.new) export.new) }
+    ensures in_progress { OnOk result (IsUnderWay R.rules R.HasWritten (W.contents writer.new) export.new) }
     ensures written { OnOk result ((terms : core.Terms) (id n : ℕ) (game : Game R.Move) (title : Title R.End)
         (before : Option (List ℕ)) → IsLegalGame R.rules terms game → n < length game.entries →
         option_map move_cells row ≡ row_at R.rules terms id game (suc n) →
@@ -215,7 +215,7 @@ pub(crate) fn names_of<S: Alter>(
     stored: &StoredGame,
 ) -> Result<RecordNames, LookupFault>
     ensures reads { Reads (is_ok result) (state S.Store conn.old) (state S.Store conn.new) }
-    ensures possible_faults { HasCleanDisk (state S.Store conn.new) → IfOk result (λ names. (s : ClubState) (id : ℕ)
+    ensures names { HasCleanDisk (state S.Store conn.new) → IfOk result (λ names. (s : ClubState) (id : ℕ)
         (game : ClubGame) → IsClub s → place s.games id ≡ Some game → IsStoredGame s id game stored.now →
         HasRows (tables s) (state S.Store conn.old) → AreNamesOf s game names) }
 {

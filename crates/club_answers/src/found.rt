@@ -11,11 +11,13 @@ ghost use Rattle.club_answers.specs.internal.Found.{IsFound, IsFoundAs};
 ghost use Rattle.club_answers.specs.AnswerTexts.{join_lines, IsLegalText, IsNoGame, IsTableText, IsNoEvent};
 ghost use Rattle.club_answers.specs.AnswerTexts.{IsMembersText};
 
+use crate::analyses::analysis;
 use crate::boards::board;
 use crate::bodies::{game_body, moves_body};
 use crate::lists::of_lists;
 use crate::member_answers::mine;
 use crate::pages::{clock, page};
+use crate::standings::standings;
 use crate::{cross_table_lines, legal_of};
 use clocks::Moment;
 use club_lists::members_text;
@@ -114,11 +116,13 @@ pub(crate) fn read_answer<S: Alter>(
         Question::EndedGames(_) => of_lists(alloc, conn, question, moment),
         Question::ChallengeChoices(_) => of_lists(alloc, conn, question, moment),
         Question::EventGames(_) => of_lists(alloc, conn, question, moment),
+        Question::EventStandings(name) => standings(alloc, conn, name.as_str(), moment),
         Question::GameClock(game) => clock(alloc, conn, *game, moment),
         Question::GameJson(game) => game_body(alloc, conn, *game),
         Question::GamePage(game) => page(alloc, conn, *game, moment),
         Question::LegalMovesJson(game) => moves_body(alloc, conn, *game),
         Question::Board { game, letters } => board(alloc, conn, *game, *letters, moment),
         Question::EventRecords(_) => of_lists(alloc, conn, question, moment),
+        Question::Analysis(asked) => analysis(alloc, conn, asked),
     }
 }

@@ -10,11 +10,13 @@
 //!   (`IsBoardText`), an event's records (`AreEventRecords`).
 //! - `overdue_games_are_swept` (`counted`, `swept`): the games that are listed as overdue are exactly those that a
 //!   sweep then ends.
-//! - `cross_tables_are_one`: no other lines are those of a cross table.
+//! - `cross_tables_are_one`, `standings_are_one`: no other lines are those of a cross table, and no other text is that
+//!   of standings.
 //! - `legal_of` (`rows`), `view_of` (`viewed`), `export_game` (`written`, `begun`), `cross_table_lines` (`rows`): what
 //!   a reader is shown of a game and of an event.
 #![tactic(auto)]
 
+mod analyses;
 mod answers;
 mod boards;
 mod bodies;
@@ -30,11 +32,13 @@ mod listed;
 mod lists;
 mod member_answers;
 mod pages;
+mod played_lines;
 mod read;
 mod reading;
 mod records;
 mod running;
 mod scored;
+mod standings;
 mod viewed;
 
 pub use answers::answer;

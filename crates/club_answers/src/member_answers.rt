@@ -9,12 +9,13 @@ ghost use Rattle.club_rows.specs.Club.{ClubState, IsClub, tables};
 ghost use Rattle.club_answers.specs.internal.Found.{IsFoundAs};
 ghost use Rattle.club_answers.specs.AnswerTexts.{IsMyGamesText, IsNoKey};
 
-use crate::challenges::all_challenges;
+use crate::challenges::challenges_of_member;
 use crate::found::Shown;
 use crate::read::read_club;
 use crate::running::all_running;
 use clocks::Moment;
-use club_lists::{MemberGames, member_name_by_key, my_games_json, own_game_ids};
+use club_lists::listing::member_name;
+use club_lists::{MemberGames, member_id_by_key, my_games_json, own_game_ids};
 use club_reads::LookupFault;
 use club_requests::Refusal;
 use sqlite::{Alter, Connection};
@@ -33,10 +34,11 @@ pub(crate) fn mine<S: Alter>(
         IsFoundAs (IsMyGamesText s moment key.now) (IsNoKey s key.now) found) }
 {
     let club = read_club(alloc, conn, moment)?;
-    let challenges = all_challenges(alloc, conn)?;
-    let Some(name) = member_name_by_key(&club.members, key) else {
+    let Some(id) = member_id_by_key(&club.members, key) else {
         return Ok(Shown::Refused(Refusal::UnknownKey));
     };
+    let name = member_name(&club.members, id);
+    let challenges = challenges_of_member(alloc, conn, id)?;
     let ids = own_game_ids(alloc, &club.members, name, &club.games)?;
     let running = all_running(alloc, conn, &ids)?;
     let own = MemberGames {

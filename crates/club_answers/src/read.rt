@@ -1,10 +1,11 @@
 //! Reads all that a list needs: timestamp, members, events and games.
 
-ghost use Rattle.std.specs.Prelude.{◌≡◌, IfOk, is_ok};
+ghost use Rattle.std.specs.Prelude.{◌≡◌, ◌≤◌, IfOk, is_ok, length};
 ghost use Rattle.sqlite.specs.State.{HasCleanDisk};
 ghost use Rattle.sqlite.specs.Held.{state};
 ghost use Rattle.store_tables.specs.Over.{HasRows};
 ghost use Rattle.store_tables.specs.Reading.{Reads};
+ghost use Rattle.club_requests.specs.Limits.{most_members};
 ghost use Rattle.club_rows.specs.Club.{ClubState, IsClub, tables};
 ghost use Rattle.club_lists.specs.internal.SummaryViews.{summaries_of};
 ghost use Rattle.club_answers.specs.internal.Found.{IsReadOf};
@@ -50,6 +51,7 @@ pub(crate) fn read_club<S: Alter>(
     moment: Moment,
 ) -> Result<ClubRead, LookupFault>
     ensures reads { Reads (is_ok result) (state S.Store conn.old) (state S.Store conn.new) }
+    ensures room { IfOk result (λ club. length club.members.items ≤ most_members) }
     ensures read { HasCleanDisk (state S.Store conn.new) → IfOk result (λ club. (s : ClubState) → IsClub s →
         HasRows (tables s) (state S.Store conn.old) → IsReadOf s moment club) }
 {

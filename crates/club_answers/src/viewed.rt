@@ -63,8 +63,8 @@ pub struct ViewedGame {
     pub played: GameProgress,
 }
 
-// The rows of a game's moves.
-fn line<R: Rules, S: Alter>(
+/// The rows of a game's moves.
+pub(crate) fn line<R: Rules, S: Alter>(
     alloc: Global,
     conn: &mut Connection<S>,
     game: u32,
@@ -87,8 +87,8 @@ fn is_next(row: &MoveRow, plies: usize) -> bool
     row.ply == to_i64(plies as u64 + 1)
 }
 
-// The texts of the moves, whose rows must be in the order of plies.
-fn texts(alloc: Global, rows: &[MoveRow]) -> Result<Vec<String>, LookupFault>
+/// The texts of the moves, whose rows must be in the order of plies.
+pub(crate) fn texts(alloc: Global, rows: &[MoveRow]) -> Result<Vec<String>, LookupFault>
     ensures order { IfOk result (λ texts. (n : ℕ) (row : row_of.MoveRow) → slice_get rows.now n ≡ Some row →
         row.ply ≡ pos (1 + n)) }
     ensures texts { IfOk result (λ texts.

@@ -8,7 +8,7 @@
 //!   those of a legal game at its place.
 //! - `are_scores` (`sound`, `complete`), `are_seen` (`sound`, `complete`): rows of scores and of positions are
 //!   accepted exactly if they are those of the games.
-//! - The table that is named is the first wrong one (`IsFirstWrong`).
+//! - The reported table is the first wrong one (`IsFirstWrong`).
 #![tactic(auto)]
 
 pub mod audit;

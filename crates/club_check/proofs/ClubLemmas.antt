@@ -1,5 +1,6 @@
 -- From what was read of the tables to what a fault says of them, and to the club that is stored so.
 use Rattle.std.proofs.Common.{◌≡◌, ◌⊎◌, ℕ, List, [], ◌∷◌, inl, inr, refl, subst, sym, ap, ◌∙◌, Some, get_or, map, true}
+use Rattle.std.proofs.lemmas.Int.{ints}
 use Rattle.std.proofs.Common.{false, true≢false, ℤ, zero, suc, ◌+◌, ◌<◌, length, arith, ◌≤◌, ◌^◌}
 use Rattle.std.specs.List.{AllByRecursion}
 use Rattle.std.specs.List.Sorted.{IsPermutation, IsSorted}
@@ -25,7 +26,8 @@ use Rattle.sqlite_trees.specs.View.{is_int}
 use Rattle.std.specs.Prelude.{pos, slice_get, IsTrue}
 use Rattle.store_tables.specs.internal.Rows.{HaveIds}
 use Rattle.store_tables.specs.declared.rows.Rows.{Rows}
-use Rattle.store_tables.specs.Tables.{club_schema, first_schema, schema_of, schema_number, meta, members, events, games}
+use Rattle.store_tables.specs.Tables.{club_schema, schema_of, schema_number, meta, members, events, games}
+use Rattle.store_tables.specs.internal.Tables.{first_schema}
 use Rattle.store_tables.specs.Tables.{event_rules, challenges}
 use Rattle.store_tables.specs.declared.rows.EventRow.{EventRow}
 use Rattle.store_tables.specs.declared.rows.EventRuleRow.{EventRuleRow}
@@ -289,10 +291,22 @@ shape_named version db has other = (
 
 -- ---- the head
 
+pub least_number : (version : Version) → schema_number First ≤ schema_number version
+least_number First = omega arith
+least_number Current = omega arith
+
 -- a number that is of no version is of none from a later one on
 no_later : (oldest : Version) (n : ℤ) → ¬ IsNumberFrom First n → ¬ IsNumberFrom oldest n
-no_later First n none = none
-no_later Current n none = λ is. none (inr is)
+no_later oldest n none = λ is. none (is.0, is.1, least_number is.0)
+
+-- no version is later than the last
+greatest_number : (version : Version) → ¬ (schema_number Current < schema_number version)
+greatest_number First = λ less. absurd (omega (arith, less))
+greatest_number Current = λ less. absurd (omega (arith, less))
+
+pub only_last : (version : Version) → schema_number Current ≤ schema_number version → version ≡ Current
+only_last First last = absurd (omega (arith, last))
+only_last Current last = refl
 
 pub told_blamed : (oldest : Version) (db : Database) (e : OpenFault)
     → (e ≡ Store) ⊎ ((e ≡ Memory) ⊎ NamesSchema First db e) → IsRightFault oldest db e
@@ -300,16 +314,18 @@ told_blamed oldest db e (inl store) = inl (inl store)
 told_blamed oldest db e (inr (inl memory)) = inl (inr (inl memory))
 told_blamed oldest db e (inr (inr (n, named, none, has))) = inr (inl (n, named, no_later oldest n none, has))
 
--- the first version is not taken where the last one alone is
-pub refused_named : (row : MetaRow) (old mid : State) (e : OpenFault) → IsMetaRead First row old mid
-    → e ≡ open_fault.Schema (pos 1) → NamesSchema Current old.now e
-refused_named row old mid e (inl (read, id, number)) named = (
-  pos 1,
+-- a version before those that are taken is named by its number
+pub refused_named : (oldest version : Version) (row : MetaRow) (old mid : State) (e : OpenFault)
+    → IsMetaRead version row old mid → e ≡ open_fault.Schema (pos (schema_number version))
+    → schema_number version < schema_number oldest → NamesSchema oldest old.now e
+refused_named oldest version row old mid e (inl (read, id, number)) named less = (
+  pos (schema_number version),
   named,
-  λ is. absurd cc,
+  λ is. absurd (omega (arith, ints, is.1, is.2, less)),
   subst (HasNumber old.now) number (has_number row old mid read id),
 )
-refused_named row old mid e (inr missing) named = let no : First ≡ Current = missing.0 in absurd cc
+refused_named oldest version row old mid e (inr missing) named less =
+    absurd (greatest_number oldest (subst (λ v. schema_number v < schema_number oldest) missing.0 less))
 
 -- ---- all tables
 
@@ -430,21 +446,14 @@ good_at oldest version s club db holds shape _ (inr (inr (inr (t, named, none)))
 
 -- of a version that is taken it is blamed for nothing
 pub good_taken : (oldest version : Version) (s : ClubState) → IsClubOf version s → (db : Database)
-    → HasClub version db s → is_of_club version db.schema ≡ true → (oldest ≡ Current → version ≡ Current)
+    → HasClub version db s → is_of_club version db.schema ≡ true → schema_number oldest ≤ schema_number version
     → (fault : OpenFault) → IsRightFault oldest db fault → (fault ≡ Store) ⊎ (fault ≡ Memory)
 good_taken oldest version s club db holds shape taken fault blamed =
     elim (good_at oldest version s club db holds shape fault blamed) [
       | inl store ↦ inl store
       | inr (inl memory) ↦ inr memory
-      | inr (inr (named, other)) ↦ absurd (other (number_from oldest version taken))
+      | inr (inr (named, other)) ↦ absurd (other (version, refl, taken))
     ]
-  where
-    number_from : (oldest version : Version) → (oldest ≡ Current → version ≡ Current)
-        → IsNumberFrom oldest (pos (schema_number version))
-    number_from First First taken = inl refl
-    number_from First Current taken = inr refl
-    number_from Current First taken = let no : First ≡ Current = taken refl in absurd cc
-    number_from Current Current taken = refl
 
 -- ---- what was read
 

@@ -19,7 +19,8 @@ use Rattle.store_tables.specs.Content.{Keeps, AreApart, cells}
 use Rattle.store_tables.specs.Contents.{Content, Stores}
 use Rattle.std.specs.Prelude.{pos, slice_get}
 use Rattle.store_tables.specs.declared.rows.Rows.{Rows}
-use Rattle.store_tables.specs.Tables.{club_schema, first_schema, schema_of, members, events, games}
+use Rattle.store_tables.specs.Tables.{club_schema, schema_of, members, events, games}
+use Rattle.store_tables.specs.internal.Tables.{first_schema}
 use Rattle.store_tables.specs.Tables.{event_rules, challenges, moves, seen}
 use Rattle.store_tables.specs.declared.rows.EventRow.{EventRow}
 use Rattle.store_tables.specs.declared.rows.EventRuleRow.{EventRuleRow}

@@ -1,5 +1,7 @@
 -- What a database has of a club, in whatever version of its tables.
-use Rattle.std.proofs.Common.{◌≡◌, false, List, [], ◌∷◌, refl, sym, subst, inl, inr}
+use Rattle.std.proofs.Common.{◌≡◌, Bool, true, false, true≢false, List, [], ◌∷◌, refl, sym, subst, ap, ◌∙◌}
+use Rattle.sqlite_catalog.specs.Change.{is_used}
+use Rattle.store_tables.specs.Names.{table_name}
 use Rattle.std.specs.List.{AllByRecursion}
 use Rattle.sqlite.specs.Effect.{Database}
 use Rattle.sqlite.specs.Order.{Row}
@@ -13,7 +15,7 @@ use Rattle.sqlite_value.specs.Keys.{plain}
 use Rattle.store_tables.specs.Placed.{HasClubTables, HasTables, HasTablesOf, HasTableAt, by_club, club_trees, tree_in}
 use Rattle.store_tables.specs.Content.{AreApart}
 use Rattle.store_tables.specs.Contents.{AreStored, Content, Stores}
-use Rattle.store_tables.proofs.Proved.{first_of_current, keeps_moved, tables_alone, unique_here, versions_apart}
+use Rattle.store_tables.proofs.Proved.{has_first_tables, keeps_moved, tables_alone, unique_here, versions_apart}
 use Rattle.store_tables.specs.Tables.{schema_of}
 use Rattle.store_tables.specs.internal.Tables.{IsClubSchema}
 use Rattle.store_tables.specs.declared.names.Table.{Table}
@@ -39,25 +41,17 @@ one_of Current First schema a b = absurd (versions_apart schema b a)
 pub alone_of : (version : Version) (schema : Schema) → schema ≡ schema_of version → HasTablesOf version schema
 alone_of version schema is = subst (HasTablesOf version) (sym is) (tables_alone version)
 
-pub of_version : (version : Version) (schema : Schema) → HasTablesOf version schema → HasClubTables schema
-of_version First schema has = inl has
-of_version Current schema has = inr has
-
 pub tables_of_club : (schema : Schema) → IsClubSchema schema → HasClubTables schema
-tables_of_club schema (inl first) = inl (alone_of First schema first)
-tables_of_club schema (inr current) = inr (alone_of Current schema current)
+tables_of_club schema (version, is) = (version, alone_of version schema is)
 
 pub exactly_of : (version : Version) (schema : Schema) → IsClubSchema schema → HasTablesOf version schema
     → schema ≡ schema_of version
-exactly_of First schema (inl first) has = first
-exactly_of First schema (inr current) has = absurd (versions_apart schema has (alone_of Current schema current))
-exactly_of Current schema (inl first) has = absurd (versions_apart schema (alone_of First schema first) has)
-exactly_of Current schema (inr current) has = current
+exactly_of version schema (other, is) has =
+    is ∙ ap schema_of (one_of other version schema (alone_of other schema is) has)
 
 -- the first tables of each version stand
 pub first_stand : (schema : Schema) → HasClubTables schema → HasTables First schema
-first_stand schema (inl first) = first.0
-first_stand schema (inr current) = first_of_current schema current
+first_stand schema (version, has) = has_first_tables version schema has.0
 
 -- each of them
 pub stands : (t : Table) → HasTable t First → {schema : Schema} → HasClubTables schema → HasTableAt schema t
@@ -73,7 +67,22 @@ stands EventRules there has = absurd there
 
 -- that of the rules of events
 pub rules_stand : (schema : Schema) → HasTablesOf Current schema → HasTableAt schema EventRules
-rules_stand schema has = has.1.1.1.1.1.1.1.1.0
+rules_stand schema has = has.0.1.1.1.1.1.1.1.1.0
+
+-- whether a version has the table of the rules of events
+abbrev pub has_rules : Version → Bool
+has_rules First = false
+has_rules Current = true
+
+-- A club's tables are those of the version that has this table, or has it not.
+pub rules_fit : (version : Version) (schema : Schema) (there : Bool) → HasClubTables schema
+    → (HasTableAt schema EventRules → there ≡ true) → (is_used schema (table_name EventRules) ≡ false → there ≡ false)
+    → there ≡ has_rules version → HasTablesOf version schema
+rules_fit First schema there (First, has) stands missing fits = has
+rules_fit Current schema there (Current, has) stands missing fits = has
+rules_fit First schema there (Current, has) stands missing fits =
+    absurd (true≢false (sym (stands (rules_stand schema has)) ∙ fits))
+rules_fit Current schema there (First, has) stands missing fits = absurd (true≢false (sym fits ∙ missing has.1.0))
 
 -- Where it stands alone its tables have the trees that it gives them.
 trees_alone : (version : Version) (trees : Trees)
@@ -119,7 +128,7 @@ pub record AreUnique (trees : Trees) : Type 0 where
 pub unique_of : (version : Version) (db : Database) (content : Content) → HoldsRows version content db
     → AreUnique (club_trees db)
 unique_of version db content holds =
-    let has = of_version version db.schema holds.schema in
+    let has : HasClubTables db.schema = (version, holds.schema) in
     let sound = holds.sound in
     record {
       challenges = unique_here db.schema db.trees sound Challenges (stands Challenges tt has) (1 ∷ 2 ∷ []) refl refl;

@@ -1,5 +1,5 @@
 -- The result of reading a club's tables, and the meaning of each error.
-use Rattle.std.specs.Prelude.{◌≡◌, ◌⊎◌, ℤ, pos, true, List, [], ◌∷◌}
+use Rattle.std.specs.Prelude.{◌≡◌, ◌≤◌, ◌⊎◌, ℤ, pos, true, List, [], ◌∷◌}
 use Rattle.std.specs.List.{AllByRecursion}
 use Rattle.sqlite.specs.Order.{Row}
 use Rattle.sqlite.specs.Effect.{Database}
@@ -13,7 +13,6 @@ use Rattle.store_tables.specs.declared.names.Table.{Table}
 use Rattle.store_tables.specs.declared.names.Table.TheVariants.{Members, Events, EventRules, Challenges, Moves, Games}
 use Rattle.store_tables.specs.declared.names.Table.TheVariants.{Seen, Scores, Meta}
 use Rattle.store_tables.specs.declared.names.Version.{Version}
-use Rattle.store_tables.specs.declared.names.Version.TheVariants.{First, Current}
 use Rattle.store_tables.specs.Names.{tree_of}
 use Rattle.schema_match.specs.Shapes.{is_of_club}
 use Rattle.club_check.specs.Places.{NamesRows}
@@ -62,8 +61,8 @@ HasNumber db n = (version : Version) (content : Content) → HoldsRows version c
 
 -- the schema number is that of this version or a later one
 abbrev pub IsNumberFrom : Version → ℤ → Type 0
-IsNumberFrom First n = (n ≡ pos 1) ⊎ (n ≡ pos 2)
-IsNumberFrom Current n = n ≡ pos 2
+IsNumberFrom oldest n =
+    (version : Version) × (n ≡ pos (schema_number version)) × (schema_number oldest ≤ schema_number version)
 
 -- the error names the schema number in `meta`, which is not that of an accepted version
 abbrev pub NamesSchema : Version → Database → OpenFault → Type 0

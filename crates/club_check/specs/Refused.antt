@@ -1,4 +1,4 @@
--- What is promised about a database that was just opened: it holds a club, or it was rejected.
+-- The promise about a database that was just opened: it holds a club, or it was rejected.
 use Rattle.sqlite.specs.Tree.{Trees}
 use Rattle.store_tables.specs.declared.names.Version.TheVariants.{Current}
 use Rattle.club_rows.specs.Club.{ClubState, IsClub, tables}

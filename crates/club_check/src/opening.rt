@@ -1,6 +1,6 @@
 //! The check of a whole database: `check_database` and `check_schemas`.
 
-ghost use Rattle.std.specs.Prelude.{◌≡◌, ◌≢◌, ◌⊎◌, true, false, None, Some, IfErr, IfOk, OnOk, is_ok};
+ghost use Rattle.std.specs.Prelude.{◌≡◌, ◌≢◌, ◌≤◌, ◌⊎◌, true, false, None, Some, IfErr, IfOk, OnOk, is_ok};
 ghost use Rattle.sqlite.specs.State.{HasCleanDisk, IsUnchanged};
 ghost use Rattle.sqlite.specs.Effect.{IsDatabase};
 ghost use Rattle.sqlite.specs.Held.{state};
@@ -8,7 +8,7 @@ ghost use Rattle.store_tables.specs.Placed.{HasClubTables, HasTablesOf};
 ghost use Rattle.store_tables.specs.Club.{IsExactly, IsOpened};
 ghost use Rattle.store_tables.specs.Reading.{Reads};
 ghost use Rattle.store_tables.specs.internal.Rows.{HaveIds};
-ghost use Rattle.store_tables.specs.Tables.{club_schema, schema_of};
+ghost use Rattle.store_tables.specs.Tables.{club_schema, schema_number, schema_of};
 ghost use Rattle.store_tables.specs.internal.Tables.{IsClubSchema};
 ghost use Rattle.store_tables.specs.declared.names.Version.TheVariants.{Current};
 ghost use Rattle.schema_match.specs.Shapes.{is_of_club};
@@ -133,7 +133,7 @@ pub(crate) fn name_untyped<S: Alter>(
     judged: Vec<GameTableRow>,
 ) -> OpenFault
     ensures reads { Reads false (state S.Store conn.old) (state S.Store conn.new) }
-    ensures possible_faults { HasCleanDisk (state S.Store conn.new) →
+    ensures first_damaged { HasCleanDisk (state S.Store conn.new) →
         HasClubTables (state S.Store conn.old).now.schema →
         (s : ClubState) → HasPeople s rows → HaveIds (record rows { games = judged }) →
         NamesUntyped rows (record rows { games = judged }) (state S.Store conn.old).now result }
@@ -264,7 +264,7 @@ pub fn check_schemas<S: Alter>(
     oldest: Version,
 ) -> Result<Register, OpenFault>
     ensures reads { Reads (is_ok result) (state S.Store conn.old) (state S.Store conn.new) }
-    ensures taken { IfOk result (λ found. oldest ≡ Current → found.version ≡ Current) }
+    ensures taken { IfOk result (λ found. schema_number oldest ≤ schema_number found.version) }
     ensures shape { IfOk result (λ found. is_of_club found.version (state S.Store conn.old).now.schema ≡ true) }
     ensures found { HasCleanDisk (state S.Store conn.new) → IfOk result (λ found.
         (version : _) → IsOpenedAt version (state S.Store conn.old) → (found.version ≡ version) × ((s : _) ×
@@ -294,7 +294,7 @@ pub fn check_schemas<S: Alter>(
     ensures accepts_sound { HasCleanDisk (state S.Store conn.new) → IfErr result (λ e. (version : _) (s : ClubState) →
         IsClubOf version s → HoldsRows version (tables_at version s) (state S.Store conn.old).now →
         is_of_club version (state S.Store conn.old).now.schema ≡ true →
-        (oldest ≡ Current → version ≡ Current) → (e ≡ OpenFault.Store) ⊎ (e ≡ OpenFault.Memory)) }
+        schema_number oldest ≤ schema_number version → (e ≡ OpenFault.Store) ⊎ (e ≡ OpenFault.Memory)) }
     ensures newer { HasCleanDisk (state S.Store conn.new) → IfOk result (λ found.
         HasTablesOf Current (state S.Store conn.old).now.schema → found.version ≡ Current) }
     ensures standing { HasCleanDisk (state S.Store conn.new) → IfOk result (λ found. (version : _) (s : ClubState) →

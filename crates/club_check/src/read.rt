@@ -1,7 +1,7 @@
 //! Reads the tables of a club and checks members, events and event rules.
 
 ghost use Rattle.std.specs.Prelude.{◌≡◌, ◌≢◌, ◌⊎◌, ℕ, pos, true, None, Some, IfSome, IfOk, IfErr, OnOk, IsTrue, List};
-ghost use Rattle.std.specs.Prelude.{[], ◌∷◌, is_ok, length, map};
+ghost use Rattle.std.specs.Prelude.{[], ◌∷◌, ◌≤◌, ◌<◌, is_ok, length, map};
 ghost use Rattle.sqlite.specs.State.{HasCleanDisk, IsUnchanged};
 ghost use Rattle.sqlite.specs.Held.{state};
 ghost use Rattle.club_audit.specs.internal.Audit.{AreEvents, AreMembers, AreRules};
@@ -19,7 +19,7 @@ ghost use Rattle.store_tables.specs.declared.names.Table.TheVariants.{Meta, Memb
 ghost use Rattle.club_check.specs.ReasonIsRight.{IsOneMeta, HasTypes, HoldsNone};
 ghost use Rattle.club_check.specs.internal.ReasonIsRight.{IsMetaRead, ReasonIsRight};
 ghost use Rattle.club_check.specs.ReasonIsRight.{IsRightFault, NamesTable};
-ghost use Rattle.club_check.specs.ReasonIsRight.{IsNumberFrom, NamesSchema};
+ghost use Rattle.club_check.specs.ReasonIsRight.{NamesSchema};
 ghost use Rattle.club_check.specs.internal.ReasonIsRight.{AreRead, AreRulesRead, undeclared_row};
 ghost use Rattle.club_check.specs.internal.ReasonIsRight.{ArePeopleRead};
 ghost use Rattle.club_check.specs.Places.{NamesRows};
@@ -222,7 +222,7 @@ fn read_version<S: Alter>(conn: &mut Connection<S>) -> Result<FileHead, OpenFaul
         }
         Err(fault) => return Err(fault),
     };
-    match version_of(found.schema) {
+    match Version::from_number(found.schema) {
         Some(version) => Ok(FileHead {
             version,
             meta: found,
@@ -231,27 +231,16 @@ fn read_version<S: Alter>(conn: &mut Connection<S>) -> Result<FileHead, OpenFaul
     }
 }
 
-fn version_of(number: i64) -> Option<Version>
-    ensures some { IfSome result (λ version. number ≡ pos (schema_number version)) }
-    ensures none { result ≡ None → ¬ IsNumberFrom First number }
-{
-    match number {
-        1 => Some(Version::First),
-        2 => Some(Version::Current),
-        _ => None,
-    }
-}
-
 /// The error for tables of this version, unless it is `oldest` or later.
 fn refused(oldest: Version, version: Version) -> Option<OpenFault>
-    ensures none { result ≡ None → (oldest ≡ Current) → version ≡ Current }
+    ensures none { result ≡ None → schema_number oldest ≤ schema_number version }
     ensures some { IfSome result (λ e.
-        (e ≡ OpenFault.Schema (pos 1)) × (oldest ≡ Current) × (version ≡ First)) }
+        (e ≡ OpenFault.Schema (pos (schema_number version))) × (schema_number version < schema_number oldest)) }
 {
-    match (oldest, version) {
-        (Version::Current, Version::First) => Some(OpenFault::Schema(1)),
-        _ => None,
+    if version.number() < oldest.number() {
+        return Some(OpenFault::Schema(version.number()));
     }
+    None
 }
 
 /// Checks that a table and its columns exist, before any of its rows is read.
@@ -449,7 +438,7 @@ fn read_head<S: Alter>(conn: &mut Connection<S>, oldest: Version) -> Result<File
     ensures same { HasCleanDisk (state S.Store conn.new) → OnOk result (
         HasClubTables (state S.Store conn.old).now.schema →
         IsUnchanged (state S.Store conn.old) (state S.Store conn.new)) }
-    ensures taken { IfOk result (λ told. oldest ≡ Current → told.version ≡ Current) }
+    ensures taken { IfOk result (λ told. schema_number oldest ≤ schema_number told.version) }
     ensures reason_is_right { HasCleanDisk (state S.Store conn.new) → IfErr result (λ e.
         HasClubTables (state S.Store conn.old).now.schema → IsRightFault oldest (state S.Store conn.old).now e) }
     ensures undamaged { HasCleanDisk (state S.Store conn.new) → IfErr result (λ e.
@@ -490,7 +479,7 @@ fn read_shaped<S: Alter>(
     ensures same { HasCleanDisk (state S.Store conn.new) → OnOk result (
         HasClubTables (state S.Store conn.old).now.schema →
         IsUnchanged (state S.Store conn.old) (state S.Store conn.new)) }
-    ensures taken { IfOk result (λ told. oldest ≡ Current → told.version ≡ Current) }
+    ensures taken { IfOk result (λ told. schema_number oldest ≤ schema_number told.version) }
     ensures reason_is_right { HasCleanDisk (state S.Store conn.new) → IfErr result (λ e.
         HasClubTables (state S.Store conn.old).now.schema → IsRightFault oldest (state S.Store conn.old).now e) }
     ensures undamaged { HasCleanDisk (state S.Store conn.new) → IfErr result (λ e.
@@ -535,7 +524,7 @@ fn read_people<S: Alter>(
         HasClubTables (state S.Store conn.old).now.schema →
         ArePeopleRead people (state S.Store conn.old) (state S.Store conn.new)) }
     ensures shape { IfOk result (λ people. is_of_club people.version (state S.Store conn.old).now.schema ≡ true) }
-    ensures taken { IfOk result (λ people. oldest ≡ Current → people.version ≡ Current) }
+    ensures taken { IfOk result (λ people. schema_number oldest ≤ schema_number people.version) }
     ensures members { IfOk result (λ people. (ms : List Member) × AreMembers ms people.members.items) }
     ensures events { IfOk result (λ people. (es : List Event) × AreEvents es people.events.items) }
     ensures rules { IfOk result (λ people. AreRules people.event_rules.items (length people.events.items)) }
@@ -582,7 +571,7 @@ pub(crate) fn read_rows<S: Alter>(
         (HasTablesOf found.version (state S.Store conn.old).now.schema) ×
         AreRead found.version found.rows (state S.Store conn.old) (state S.Store conn.new)) }
     ensures shape { IfOk result (λ found. is_of_club found.version (state S.Store conn.old).now.schema ≡ true) }
-    ensures taken { IfOk result (λ found. oldest ≡ Current → found.version ≡ Current) }
+    ensures taken { IfOk result (λ found. schema_number oldest ≤ schema_number found.version) }
     ensures members { IfOk result (λ found. (ms : List Member) × AreMembers ms found.rows.members.items) }
     ensures events { IfOk result (λ found. (es : List Event) × AreEvents es found.rows.events.items) }
     ensures rules { IfOk result (λ found. AreRules found.rows.event_rules.items

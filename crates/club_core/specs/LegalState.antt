@@ -23,7 +23,8 @@ Each {A} IsSo xs = (n : ℕ) (x : A) → slice_get xs n ≡ Some x → IsSo x
 
 -- the values of `part` are unique
 abbrev pub HaveUniqueKeys : {A B : Type 0} → (A → B) → List A → Type 0
-HaveUniqueKeys {A} part xs = (i j : ℕ) (x y : A) → slice_get xs i ≡ Some x → slice_get xs j ≡ Some y → part x ≡ part y → i ≡ j
+HaveUniqueKeys {A} part xs =
+    (i j : ℕ) (x y : A) → slice_get xs i ≡ Some x → slice_get xs j ≡ Some y → part x ≡ part y → i ≡ j
 
 -- the values of `part` are unique among the elements that have one
 abbrev pub HaveUniqueKeysIfAny : {A B : Type 0} → (A → Option B) → List A → Type 0

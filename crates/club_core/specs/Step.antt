@@ -207,7 +207,8 @@ module _ {P M E T : Type 0} (rules : GameRules P M E T) (game : Game M) where
 
   -- the draw was agreed by this side's acceptance of the opponent's offer at this ply
   abbrev pub repeat_of_accept : Side → ℕ → Option Reply
-  repeat_of_accept side ply = repeat_of_end Agreed (is_ended_by Agreed game.outside && has_offer game.offer (other side) ply)
+  repeat_of_accept side ply =
+      repeat_of_end Agreed (is_ended_by Agreed game.outside && has_offer game.offer (other side) ply)
 
   -- a side accepts the opponent's offer
   abbrev pub step_accept : Side → ℕ → Outcome (Game M)

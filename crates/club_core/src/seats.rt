@@ -46,7 +46,7 @@ pub struct NamedPairing {
     pub second: Option<u32>,
 }
 
-/// The stored games as a new game with a key depends on them.
+/// The facts about stored games on which a new game with a key depends.
 #[derive(Clone, Copy, Debug, PartialEq, Eq)]
 pub struct StoredGames {
     /// The game that already has the key.

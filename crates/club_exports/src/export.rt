@@ -92,7 +92,7 @@ impl<R: WriteRecord> Export<R> {
         moment: Moment,
     ) -> Result<bool, WriteFault>
         requires { IsUnderWay R.rules R.HasWritten (W.contents writer.old) self.old }
-        ensures stays_open { OnOk result (IsUnderWay R.rules R.HasWritten (W.contents writer.new) self.new) }
+        ensures in_progress { OnOk result (IsUnderWay R.rules R.HasWritten (W.contents writer.new) self.new) }
         ensures written { IfOk result (λ legal. (title : Title R.End) (entries : List (Entry R.Move))
             (before : Option (List ℕ)) (made : R.Move) →
             IsWritten R.rules R.HasWritten title entries before (W.contents writer.old) self.old →

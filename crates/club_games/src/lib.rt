@@ -6,7 +6,7 @@
 //! # Guarantees
 //!
 //! - `Rules` for `Draughts`, `Rules` for `Shogi`: each method is the function of the game's own crates. By the laws of
-//!   `Rules`, what is written is read back, a legal move passes the turn, and no game goes on after its end.
+//!   `Rules`, what is written is read back, a legal move passes the turn, and no game continues after its end.
 //! - `Records` for `Draughts`, `Records` for `Shogi`: a part of a text is read as the game, the refusal or the missing
 //!   part that the format says. A game that is read follows the rules.
 #![tactic(auto)]

@@ -5,9 +5,8 @@ use Rattle.club_requests.specs.Limits.{last_moment}
 use Rattle.club_requests.specs.Outcome.{Reply, accepted, repeated, refused}
 use Rattle.club_requests.specs.declared.refusals.Refusal.{Refusal}
 use Rattle.club_requests.specs.declared.refusals.Refusal.TheVariants.{GameOver, WrongPly}
-use Rattle.club_core.specs.Step.{GameCommand, move, offer_draw, accept_draw, resign, claim_time, declare, is_over}
-use Rattle.club_core.specs.State.{AnyGame, draughts, shogi, State, Command, add_member, add_event, seat, import_record}
-use Rattle.club_core.specs.State.{on_game, sweep, open_challenge, withdraw_challenge, answer_challenge, Request, place}
+use Rattle.club_core.specs.Step.{GameCommand, offer_draw, is_over}
+use Rattle.club_core.specs.State.{AnyGame, draughts, shogi, State, Command, on_game, sweep, Request, place}
 use Rattle.club_core.specs.State.{is_accepted, step, next, fold, accepted_of}
 use Rattle.club_core.specs.LegalState.{IsLegalState}
 
@@ -22,23 +21,13 @@ module _ {DM SM : Type 0} where
   -- the command can be repeated in this game: an offer of a draw until the next move, any other always
   abbrev pub StillRepeatsOn : Option (AnyGame DM SM) → GameCommand → Type 0
   StillRepeatsOn game (offer_draw ply) = HasNextPly ply game
-  StillRepeatsOn game (move ply text) = Unit {0}
-  StillRepeatsOn game (accept_draw ply) = Unit {0}
-  StillRepeatsOn game resign = Unit {0}
-  StillRepeatsOn game claim_time = Unit {0}
-  StillRepeatsOn game (declare ply) = Unit {0}
+  StillRepeatsOn game _ = Unit {0}
 
   -- the command can be repeated in this state: an offer of a draw until the next move, a sweep never
   abbrev pub StillRepeats : State DM SM → Command → Type 0
   StillRepeats s (on_game id command) = StillRepeatsOn (place s.games id) command
-  StillRepeats s (add_member name key) = Unit {0}
-  StillRepeats s (add_event event) = Unit {0}
-  StillRepeats s (seat key event first second) = Unit {0}
-  StillRepeats s (import_record given) = Unit {0}
   StillRepeats s sweep = ⊥
-  StillRepeats s (open_challenge number event other first) = Unit {0}
-  StillRepeats s (withdraw_challenge number) = Unit {0}
-  StillRepeats s (answer_challenge challenger number accept) = Unit {0}
+  StillRepeats s _ = Unit {0}
 
 -- the refusal of a draw offer that is sent again after a later move, given whether the game is over
 abbrev pub passed_offer : Bool → Refusal

@@ -1,5 +1,5 @@
 -- No value that is written has a float, so each has one compact text.
-use Rattle.std.proofs.Common.{◌≡◌, ℕ, List, [], ◌∷◌, ◌++◌, map, false, Option, Some, None, option_map, refl}
+use Rattle.std.proofs.Common.{◌≡◌, ℕ, suc, List, [], ◌∷◌, ◌++◌, map, false, Option, Some, None, option_map, refl}
 use Rattle.serde_json.specs.Data.{Data, string}
 use Rattle.serde_json.specs.View.{items_of}
 use Rattle.serde_json.specs.Written.{has_float, items_have_float}
@@ -7,6 +7,10 @@ use Rattle.squares.specs.Sides.{score_text}
 use Rattle.club_core.specs.Events.{Event}
 use Rattle.club_core.specs.Members.{Member}
 use Rattle.club_core.specs.declared.challenges.Challenge.{Challenge}
+use Rattle.cross_tables.specs.declared.field.FieldLine.{FieldLine}
+use Rattle.club_rules.specs.EndName.{end_text}
+use Rattle.club_rules.specs.declared.names.EndName.{EndName}
+use Rattle.club_lists.specs.Analysis.{analysis_data}
 use Rattle.club_lists.specs.Bodies.{game_data, moves_data}
 use Rattle.club_lists.specs.Clock.{clock_data, deadline_within, running_turn, while_running}
 use Rattle.club_lists.specs.Ended.{end_moment, ended_data, ended_games_data, is_own_ended, most_ended}
@@ -18,6 +22,7 @@ use Rattle.club_lists.specs.Shows.{challenge_choices, challenge_data, event_data
 use Rattle.club_lists.specs.Shows.{is_of_event, is_other, is_own_refused, most_refused, more_data, my_games_data}
 use Rattle.club_lists.specs.Shows.{offerer, own_game_data, own_listed, received_listed, started}
 use Rattle.club_lists.specs.Rounds.{round_in}
+use Rattle.club_lists.specs.Standings.{standing_data, standings_data, standings_from}
 use Rattle.club_lists.specs.Values.{number_or_null, text_or_null}
 use Rattle.std.specs.Prelude.{filter}
 
@@ -42,6 +47,12 @@ texts_float texts = items_float string (λ t. refl) texts
 
 pub moves_float : (rows : List (List ℕ)) → has_float (moves_data rows) ≡ false
 moves_float rows = rw (texts_float rows) refl
+
+pub analysis_float : (end : Option EndName) (legal moves : List (List ℕ)) (position : List ℕ)
+    → has_float (analysis_data end legal moves position) ≡ false
+unfolding analysis_data
+analysis_float end legal moves position =
+    rw (text_float (option_map end_text end), texts_float legal, texts_float moves) refl
 
 pub game_float : (id : ℕ) (game : GameShown) → has_float (game_data id game) ≡ false
 unfolding game_data
@@ -86,6 +97,21 @@ pub event_games_float : (members : List Member) (events : List Event) (name : Li
 unfolding event_games_data
 event_games_float members events name games =
     rw (items_float (event_game_data members) (event_game_float members) (filter (is_of_event events name) games)) refl
+
+standing_float : (members : List Member) (at : ℕ) (line : FieldLine) → has_float (standing_data members at line) ≡ false
+unfolding standing_data
+standing_float members at line = refl
+
+standings_from_float : (members : List Member) (at : ℕ) (lines : List FieldLine)
+    → items_have_float (items_of (standings_from members at lines)) ≡ false
+standings_from_float members at [] = refl
+standings_from_float members at (line ∷ lines) =
+    rw (standing_float members at line, standings_from_float members (suc at) lines) refl
+
+pub standings_float : (members : List Member) (events : List Event) (name : List ℕ) (lines : List FieldLine)
+    → has_float (standings_data members events name lines) ≡ false
+unfolding standings_data
+standings_float members events name lines = rw (standings_from_float members 1 lines) refl
 
 event_float : (event : Event) → has_float (event_data event) ≡ false
 unfolding event_data

@@ -1,3 +1,4 @@
+pub mod Analysis
 pub mod Board
 pub mod Bodies
 pub mod Clock
@@ -13,5 +14,6 @@ pub mod Page
 pub mod Rounds
 pub mod ShownViews
 pub mod Shows
+pub mod Standings
 pub mod Values
 pub mod internal

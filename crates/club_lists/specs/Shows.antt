@@ -154,11 +154,11 @@ state_text (Accepted game) = codes "accepted"
 abbrev pub most_refused : ℕ
 most_refused = 20
 
--- the most open or accepted challenges of a member that are listed for him
+-- the most open or accepted challenges by a member that the list has
 abbrev pub most_own : ℕ
 most_own = 100
 
--- the most open challenges to a member that are listed for him
+-- the most open challenges to a member that the list has
 abbrev pub most_received : ℕ
 most_received = 100
 
@@ -221,7 +221,7 @@ module _ (members : List Member) where
   abbrev pub own_listed : List ℕ → List Challenge → List Challenge
   own_listed name challenges = last_ones most_own (is_own_challenge name) challenges
 
-  -- how many more of his own there are
+  -- the number of the member's own challenges that are not listed
   abbrev pub own_left_out : List ℕ → List Challenge → ℕ
   own_left_out name challenges = beyond most_own (is_own_challenge name) challenges
 
@@ -237,17 +237,17 @@ module _ (members : List Member) where
   abbrev pub received_listed : List ℕ → List Challenge → List Challenge
   received_listed name challenges = received_after name [] challenges
 
-  -- how many more challenges to him there are
+  -- the number of challenges to the member that are not listed
   abbrev pub received_left_out : List ℕ → List Challenge → ℕ
   received_left_out name challenges =
       count_by (is_received name) challenges - length (received_listed name challenges)
 
-  -- the challenges that are listed for the member with this name: his own, then those to him
+  -- the challenges that are listed for the member with this name: those by the member, then those to the member
   abbrev pub listed_challenges : List Event → List ℕ → List Challenge → List Data
   listed_challenges events name challenges =
       map (challenge_data events) (own_listed name challenges ++ received_listed name challenges)
 
-  -- the object with the numbers of those that are left out, of his own and of those to him
+  -- the object with the numbers of those that are left out: by the member, and to the member
   unfoldable pub more_data : List ℕ → List Challenge → Data
   more_data name challenges = object
       (member (codes "from") (number_data (own_left_out name challenges))
@@ -258,8 +258,8 @@ module _ (members : List Member) where
   newest_refused events name challenges =
       map (challenge_data events) (newest most_refused (is_own_refused name) challenges)
 
--- the object with the challenges of the member with this name, these running games of his, the numbers of challenges
--- that are left out, and the newest of his refused challenges
+-- the object with the listed challenges of the member with this name, these running games, the numbers of challenges
+-- that are left out, and the newest refused challenges by the member
 unfoldable pub my_games_data : List Member → List Event → List ℕ → ℕ → List Challenge → List Running → Data
 my_games_data members events name moment challenges games = object
     (member (codes "challenges") (array_of (listed_challenges members events name challenges))

@@ -4,17 +4,18 @@
 //!
 //! # Guarantees
 //!
-//! - `game_text`, `moves_text`, `page_text`: the JSON of a game, of its legal moves, and of both with the clock is the
-//!   one compact text of its data.
-//! - `my_games_json`, `ended_games_json`, `challenge_choices_json`, `event_games_text`: the lists of a member and of
-//!   an event are exactly these texts. Of the challenges to a member at most ten from each challenger are listed, and a
-//!   hundred in all; of his own the last hundred.
+//! - `game_text`, `moves_text`, `page_text`, `analysis_text`: the JSON of a game, of its legal moves, of both with the
+//!   clock, and of an analysis is the one compact text of its data.
+//! - `my_games_json`, `ended_games_json`, `challenge_choices_json`, `event_games_text`, `standings_json`: the lists of
+//!   a member and of an event are exactly these texts. Of the challenges to a member at most ten from each challenger
+//!   are listed, and a hundred in all; of those by the member the last hundred.
 //! - `round_of`: the round of a game that a round robin seated, by its key (`keys_tell_rounds`).
 //! - The lines of members, events and games are exactly the bytes that `specs/Lines` gives.
 //! - A deadline is the last second in which the move is in time, or `never` or null after the last timestamp
 //!   (`specs/Clock`).
 #![tactic(auto)]
 
+mod analysis;
 pub mod board;
 mod bodies;
 pub mod clock;
@@ -30,8 +31,10 @@ pub mod mine;
 pub mod page;
 pub mod rounds;
 pub mod shown;
+pub mod standings;
 mod values;
 
+pub use analysis::analysis_text;
 pub use board::{BoardView, board_text};
 pub use bodies::{game_text, moves_text};
 pub use clock::clock_text;
@@ -40,8 +43,11 @@ pub use event_records::{event_game_ids, event_kind};
 pub use game_entry::{GameEntry, GameOver, RunningGame};
 pub use lines::{events_text, games_text, members_text};
 pub use listing::{has_event, listing_refusal};
-pub use member_json::{challenge_choices_json, event_games_text, member_name_by_key, own_game_ids};
+pub use member_json::{
+    challenge_choices_json, event_games_text, member_id_by_key, member_name_by_key, own_game_ids,
+};
 pub use mine::{MemberGames, my_games_json};
 pub use page::{GamePage, page_text};
 pub use rounds::{keys_tell_rounds, round_of};
 pub use shown::{GameShown, end_name};
+pub use standings::{games_in_event, standings_json};

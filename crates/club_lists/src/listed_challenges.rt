@@ -11,10 +11,10 @@ use club_core::{Challenge, ChallengeState, Member};
 use serde_json::{Value, json};
 use std::alloc::{AllocError, Global};
 
-// The most open or accepted challenges of a member that are listed for him.
+// The most open or accepted challenges by a member that the list has.
 const MOST_OWN: usize = 100;
 
-// The most open challenges to a member that are listed for him.
+// The most open challenges to a member that the list has.
 const MOST_RECEIVED: usize = 100;
 
 // The most of these from one challenger.

@@ -1,9 +1,12 @@
 //! Games and events as members see them, as JSON.
 
-ghost use Rattle.std.specs.Prelude.{◌≡◌, None, Some, IfOk, IfSome, map, string_bytes};
+ghost use Rattle.std.specs.Prelude.{◌≡◌, ◌≤◌, None, Some, IfOk, IfSome, length, map, string_bytes};
 ghost use Rattle.std.specs.Option.{option_map};
 ghost use Rattle.serde_json.specs.View.{view};
 ghost use Rattle.club_core.specs.internal.Answer.{event_of, events_of, member_of, members_of};
+ghost use Rattle.club_core.specs.Members.{find_id};
+ghost use Rattle.club_core.specs.State.{has_member_key};
+ghost use Rattle.club_requests.specs.Limits.{most_members};
 ghost use Rattle.club_lists.specs.GameSummary.{end_of, result_of};
 ghost use Rattle.club_lists.specs.Listing.{has_asked};
 ghost use Rattle.club_lists.specs.Shows.{event_data, event_game_data, event_games_data, event_games_text};
@@ -35,6 +38,17 @@ pub fn member_name_by_key<'a>(members: &'a [Member], key: &str) -> Option<&'a st
         }
     }
     None
+}
+
+/// The id of the member with this key.
+pub fn member_id_by_key(members: &[Member], key: &str) -> Option<u32>
+    requires { length members.now ≤ most_members }
+    ensures { result ≡ find_id (has_member_key key.now) (members_of members.now) }
+{
+    match members.iter().position(|m| m.key.as_str() == key) {
+        Some(before) => Some(before as u32 + 1),
+        None => None,
+    }
 }
 
 /// The name of the end of a game, or null.

@@ -180,7 +180,7 @@ fn newest_refused(
     Ok(values)
 }
 
-/// The challenges of a club and the running games of a member.
+/// The challenges by and to a member, and the running games of the member. Challenges of others change no text.
 #[derive(Drop)]
 pub struct MemberGames {
     pub challenges: Vec<Challenge>,
@@ -209,9 +209,9 @@ fn my_games_value(
     })
 }
 
-/// The challenges of the member with this name, these running games of his, and the newest of his refused challenges
-/// (at most 20), as a JSON object with the timestamp. Of his own challenges the last hundred are listed, of those to
-/// him at most ten from each challenger and a hundred in all, the first of each; `more` has how many others there are.
+/// A JSON object: the running games and challenges of the member with this name, and the timestamp. It lists the
+/// newest 100 challenges that the member made, at most 100 received (the oldest ten of each challenger), and the newest
+/// 20 that were refused. `more` counts the others that were made or received.
 ///
 /// # Errors
 ///

@@ -1,3 +1,4 @@
+pub mod ExplainedBatchLemmas
 pub mod ExplainedLemmas
 pub mod GivingLemmas
 pub mod PrintedLemmas

@@ -16,6 +16,7 @@ use Rattle.club_orders.specs.declared.report.Report.TheVariants.{Ready, Sound, A
 use Rattle.club_orders.specs.declared.report.Report.TheVariants.{Unopened, StoreFailed, InUse, NotOpened, NoClock, InputFailed}
 use Rattle.club_orders.specs.declared.report.Report.TheVariants.{Listening, PortUnavailable, NoMemory, Upgraded}
 use Rattle.club_orders.specs.declared.report.Report.TheVariants.{AlreadyUpgraded, Batched, Copied, BackupFailed}
+use Rattle.club_orders.specs.declared.report.Report.TheVariants.{Unread, ValueRefused}
 use Rattle.club_orders.specs.Report.{IfUnopened, IfUpgradeOf, schemas_after_upgrade, upgrade_of}
 use Rattle.club_orders.specs.internal.Report.{upgrade_report}
 use Rattle.store.specs.Histories.{HistoryStep, IsReachable, IsReachableIn, upgraded}
@@ -39,6 +40,8 @@ taken_over P (Unopened fault) taken = absurd taken
 taken_over P (StoreFailed fault) taken = tt
 taken_over P InUse taken = tt
 taken_over P (NotOpened cause) taken = tt
+taken_over P (Unread unread) taken = tt
+taken_over P (ValueRefused value) taken = tt
 taken_over P NoClock taken = tt
 taken_over P InputFailed taken = tt
 taken_over P (Listening port) taken = tt

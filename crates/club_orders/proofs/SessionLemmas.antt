@@ -7,7 +7,7 @@ use Rattle.store_tables.specs.Over.{IsFirstBeside, Neighbours}
 use Rattle.store_tables.specs.Placed.{HasClubTables, HasTables}
 use Rattle.store_tables.specs.declared.names.Version.{Version}
 use Rattle.store_tables.specs.declared.names.Version.TheVariants.{First, Current}
-use Rattle.store_tables.proofs.Proved.{first_of_current, leaves_beside}
+use Rattle.store_tables.proofs.Proved.{has_first_tables, leaves_beside}
 use Rattle.club_rows.specs.Club.{ClubState, tables}
 use Rattle.club_rows.specs.FirstSchema.{IsFirstClub, first_tables}
 use Rattle.store.specs.Histories.{HistoryStep, IsReachable, IsReachableIn, IsHistory}
@@ -43,10 +43,9 @@ pub newer_history : (from version : Version) (them : Neighbours) (sessions : Lis
 newer_history from First them sessions s newer at = absurd (newer at.after at.legal at.exactly)
 newer_history from Current them sessions s newer at = (refl, at)
 
--- a club of either version has the tables of schema 1
+-- a club of each version has the tables of schema 1
 pub first_tables_of : (schema : Schema) → HasClubTables schema → HasTables First schema
-first_tables_of schema (inl first) = first.0
-first_tables_of schema (inr current) = first_of_current schema current
+first_tables_of schema (version, has) = has_first_tables version schema has.0
 
 -- wherever sessions lead, the tables of schema 1 stand
 pub stand_first : (from version : Version) (them : Neighbours) (sessions : List HistoryStep) (s : State)
@@ -54,4 +53,4 @@ pub stand_first : (from version : Version) (them : Neighbours) (sessions : List 
 stand_first from First them sessions s at =
     subst (HasTables First) (sym at.exactly.exactly.now.schema) at.exactly.before.tables.0
 stand_first from Current them sessions s at =
-    subst (HasTables First) (sym at.exactly.exactly.now.schema) (first_of_current them.schema at.exactly.clear.club)
+    subst (HasTables First) (sym at.exactly.exactly.now.schema) (has_first_tables Current them.schema at.exactly.clear.club)

@@ -46,7 +46,7 @@ module _ (club : ClubState) (s : State) (exact : IsExact s) (has : HasState club
       takes (holds_beside has.them (tables club) s at) (ap (is_of_club Current) at.exactly.now.schema ∙ has.shape)
 
   pub stand_beside : HasTablesOf Current s.now.schema
-  stand_beside = subst (HasTablesOf Current) (sym stands_beside.exactly.now.schema) has.leaves.clear.club
+  stand_beside = subst (HasTablesOf Current) (sym stands_beside.exactly.now.schema) (has.leaves.clear.club, tt)
 
   -- a call that answered left the rows
   pub still_there : (new : State) → KeepsContent s new → HasRows (tables club) new

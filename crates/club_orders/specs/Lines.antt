@@ -1,5 +1,5 @@
 -- The explanation of each refusal, value and fault. The texts are constants of the code.
-use Rattle.std.specs.Prelude.{List, ℕ}
+use Rattle.std.specs.Prelude.{List, ◌++◌, ℕ, string_bytes}
 use Rattle.club_rules.specs.declared.names.GameKind.TheVariants.{Draughts, Shogi}
 use Rattle.club_rules.specs.declared.records.RecordFormat.TheVariants.{Pdn, Csa}
 use Rattle.club_rules.specs.declared.refusals.MoveRefusal.{MoveRefusal}
@@ -16,6 +16,9 @@ use Rattle.club_orders.specs.declared.causes.ExplainedFault.{ExplainedFault}
 use Rattle.club_orders.specs.declared.causes.ExplainedFault.TheVariants as fault
 use Rattle.club_orders.specs.declared.causes.FileFault.{FileFault}
 use Rattle.club_orders.specs.declared.causes.FileFault.TheVariants as file
+use Rattle.club_orders.specs.declared.causes.ObjectKind.{ObjectKind}
+use Rattle.club_orders.specs.declared.causes.ObjectKind.TheVariants as object
+use Rattle.club_orders.specs.declared.causes.UnreadObject.{UnreadObject}
 use Rattle.club_orders.specs.declared.causes.Explanation.{Explanation}
 use Rattle.club_orders.specs.declared.causes.Explanation.TheVariants as explanation
 use Rattle.club_orders.specs.declared.texts.TheConstants.{UNKNOWN_KEY, NOT_ALLOWED, UNKNOWN_EVENT, UNKNOWN_GAME}
@@ -35,7 +38,10 @@ use Rattle.club_orders.specs.declared.texts.TheConstants.{LATER_SCHEMA, DAMAGED,
 use Rattle.club_orders.specs.declared.texts.TheConstants.{DENIED, READ_ONLY, LINKED, JOURNAL, FOREIGN_LOG, LONG_NAME}
 use Rattle.club_orders.specs.declared.texts.TheConstants.{NOT_OPENED, STORE, REOPEN}
 use Rattle.club_orders.specs.declared.texts.TheConstants.{MEMORY, NO_CLOCK, NO_RECORD, NO_PORT, NO_OUTPUT}
-use Rattle.club_orders.specs.declared.texts.TheConstants.{NO_COPY}
+use Rattle.club_orders.specs.declared.texts.TheConstants.{NO_COPY, NO_ORDERS, NOT_PRIVATE, UTF_16, AUTO_VACUUM}
+use Rattle.club_orders.specs.declared.texts.TheConstants.{RESERVED_BYTES, MALFORMED, BROKEN_RULES, SEATED_NAME}
+use Rattle.club_orders.specs.declared.texts.TheConstants.{NAME_TWICE, SEATED_MEMBER, KEY_PREFIX, VIRTUAL_TABLE, VIEW}
+use Rattle.club_orders.specs.declared.texts.TheConstants.{VIEW_TRIGGER, NAMESAKE, TABLE, OBJECT_END}
 
 -- refusals of a move by the rules
 abbrev pub move_line : MoveRefusal → List ℕ
@@ -103,6 +109,10 @@ value_line value.NoPart = NO_PART.now
 value_line value.PlayerOrRecord = PLAYER_OR_RECORD.now
 value_line value.MoveText = MOVE_TEXT.now
 value_line value.ListedMember = LISTED_MEMBER.now
+value_line value.SeatedName = SEATED_NAME.now
+value_line value.NameTwice = NAME_TWICE.now
+value_line value.SeatedMember = SEATED_MEMBER.now
+value_line value.KeyPrefix = KEY_PREFIX.now
 
 -- why a file was not opened
 abbrev pub file_line : FileFault → List ℕ
@@ -114,6 +124,12 @@ file_line file.Linked = LINKED.now
 file_line file.Journal = JOURNAL.now
 file_line file.ForeignLog = FOREIGN_LOG.now
 file_line file.LongName = LONG_NAME.now
+file_line file.NotPrivate = NOT_PRIVATE.now
+file_line file.Utf16 = UTF_16.now
+file_line file.AutoVacuum = AUTO_VACUUM.now
+file_line file.ReservedBytes = RESERVED_BYTES.now
+file_line file.Malformed = MALFORMED.now
+file_line file.BrokenRules = BROKEN_RULES.now
 file_line file.Failed = NOT_OPENED.now
 
 -- faults of the file, memory, input and output
@@ -130,6 +146,7 @@ fault_line fault.Reopen = REOPEN.now
 fault_line fault.Memory = MEMORY.now
 fault_line fault.NoClock = NO_CLOCK.now
 fault_line fault.NoRecord = NO_RECORD.now
+fault_line fault.NoOrders = NO_ORDERS.now
 fault_line fault.NoPort = NO_PORT.now
 fault_line fault.NoOutput = NO_OUTPUT.now
 fault_line fault.NoCopy = NO_COPY.now
@@ -139,3 +156,19 @@ abbrev pub line_of : Explanation → List ℕ
 line_of (explanation.Refusal refusal) = refusal_line refusal
 line_of (explanation.Value value) = value_line value
 line_of (explanation.Fault fault) = fault_line fault
+
+-- what stands before the name of an object that is not read
+abbrev pub object_text : ObjectKind → List ℕ
+object_text object.VirtualTable = VIRTUAL_TABLE.now
+object_text object.View = VIEW.now
+object_text object.ViewTrigger = VIEW_TRIGGER.now
+object_text object.Namesake = NAMESAKE.now
+object_text object.Table = TABLE.now
+
+-- what stands behind it
+abbrev pub object_end : List ℕ
+object_end = OBJECT_END.now
+
+-- the explanation of an object that is not read
+abbrev pub object_line : UnreadObject → List ℕ
+object_line unread = object_text unread.kind ++ (string_bytes unread.name ++ object_end)

@@ -1,4 +1,4 @@
--- Which tasks open a club, and what is promised about files that are opened, rejected or not upgraded.
+-- The tasks that open a club, and the promises about files that are opened, rejected or not upgraded.
 use Rattle.std.specs.Prelude.{◌≡◌, ◌⊎◌, pos, true, ⊤}
 use Rattle.sqlite.specs.Tree.{Trees}
 use Rattle.store_tables.specs.Over.{LeavesFirst, Neighbours}

@@ -27,9 +27,11 @@ use Rattle.club_requests.specs.declared.questions.Question.{Question}
 use Rattle.club_answers.specs.AnswerTexts.{HasWrittenAnswer, HasShownSome}
 use Rattle.club_orders.specs.declared.report.Report.{Report}
 use Rattle.club_orders.specs.declared.report.Report.TheVariants.{Ready, Sound, Answered, Shown, OutputFailed}
-use Rattle.club_orders.specs.declared.report.Report.TheVariants.{Unopened, StoreFailed, InUse, NotOpened, NoClock, InputFailed}
+use Rattle.club_orders.specs.declared.report.Report.TheVariants.{Unopened, StoreFailed, InUse, NotOpened, NoClock}
+use Rattle.club_orders.specs.declared.report.Report.TheVariants.{InputFailed}
 use Rattle.club_orders.specs.declared.report.Report.TheVariants.{Listening, PortUnavailable, NoMemory, Upgraded}
 use Rattle.club_orders.specs.declared.report.Report.TheVariants.{AlreadyUpgraded, Batched, Copied, BackupFailed}
+use Rattle.club_orders.specs.declared.report.Report.TheVariants.{Unread, ValueRefused}
 use Rattle.club_orders.specs.Batches.{batch_sessions, batch_status, fault_line}
 use Rattle.cli.specs.declared.batches.Batch.{Batch}
 use Rattle.cli.specs.declared.words.Task.{Task}
@@ -51,6 +53,8 @@ report_text (Unopened fault) = codes "store " ++ open_fault_text fault ++ codes 
 report_text (StoreFailed fault) = codes "store " ++ store_fault_text fault ++ codes "\n"
 report_text InUse = codes "store 73 Store\n"
 report_text (NotOpened cause) = codes "store 73 Store\n"
+report_text (Unread unread) = codes "store 73 Store\n"
+report_text (ValueRefused value) = codes "refused 65 BadValue\n"
 report_text NoClock = codes "store 76 Input\n"
 report_text InputFailed = codes "store 76 Input\n"
 report_text (Listening port) = codes "listening 127.0.0.1:" ++ decimal port ++ codes "\n"
@@ -79,6 +83,8 @@ report_status (Unopened fault) = 3
 report_status (StoreFailed fault) = 3
 report_status InUse = 3
 report_status (NotOpened cause) = 3
+report_status (Unread unread) = 3
+report_status (ValueRefused value) = 1
 report_status NoClock = 3
 report_status InputFailed = 3
 report_status (Listening port) = 0
@@ -95,6 +101,7 @@ IsFaultText report text =
 abbrev pub IsNotOpened : Report → Type 0
 IsNotOpened InUse = Unit {0}
 IsNotOpened (NotOpened cause) = Unit {0}
+IsNotOpened (Unread unread) = Unit {0}
 IsNotOpened _ = ⊥
 
 -- the result of a session that did not begin: its files were not opened, or hold no club

@@ -24,11 +24,12 @@ pub struct BatchResults {
     pub fault: Option<StoreFault>,
 }
 
-// Why the output of a batch is incomplete.
-enum Unprinted {
-    // Out of memory for a line.
+/// Why the output of a batch is incomplete.
+#[derive(Drop)]
+pub(crate) enum Unprinted {
+    /// Out of memory for a line.
     Memory,
-    // The writer failed.
+    /// The writer failed.
     Output,
 }
 

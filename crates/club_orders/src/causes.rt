@@ -9,7 +9,7 @@ use crate::texts::{fault_line, refusal_line, value_line};
 use club_requests::values::{MOST_RECORD_BYTES, is_budget, is_member_key, is_name};
 use club_requests::{AddEvent, AddMember, Command, GameCommand, Import, OnGame, Refusal, Seat};
 
-/// The value of a command or query that is refused, as far as the command or query shows it.
+/// Which argument of a refused command or query is wrong, if the command or query alone tells.
 #[derive(Clone, Copy, Debug, PartialEq, Eq)]
 pub enum WrongValue {
     /// The name of a new member.
@@ -39,6 +39,14 @@ pub enum WrongValue {
     MoveText,
     /// The member whose games are listed does not exist.
     ListedMember,
+    /// A name of a round robin.
+    SeatedName,
+    /// A name of a round robin stands twice.
+    NameTwice,
+    /// A name of a round robin is no member's.
+    SeatedMember,
+    /// The prefix of a round robin's keys.
+    KeyPrefix,
 }
 
 /// Why a file was not opened, although no other program holds it.
@@ -60,8 +68,43 @@ pub enum FileFault {
     ForeignLog,
     /// Its name leaves no room for those of its logs.
     LongName,
+    /// It is empty and another user's, so that it cannot be made private before a club is written.
+    NotPrivate,
+    /// Its texts are in UTF-16.
+    Utf16,
+    /// Its pages are kept for auto_vacuum.
+    AutoVacuum,
+    /// Bytes of its pages are reserved.
+    ReservedBytes,
+    /// Its pages or its list of objects are damaged, or it has an object that is not named.
+    Malformed,
+    /// Rows of a table break its rules, or are older than one of its columns that has a default.
+    BrokenRules,
     /// A call of the system failed for another reason.
     Failed,
+}
+
+/// The kind of an object that the program does not read, so that it opens no file with one.
+#[derive(Clone, Copy, Debug, PartialEq, Eq)]
+pub enum ObjectKind {
+    /// A virtual table, as those of fts5 and rtree.
+    VirtualTable,
+    /// A view with a statement that is not read.
+    View,
+    /// A trigger on a view (INSTEAD OF).
+    ViewTrigger,
+    /// A trigger with the name of a table or a view.
+    Namesake,
+    /// A table with foreign keys that is not read, as one WITHOUT ROWID.
+    Table,
+}
+
+/// An object because of which a file was not opened.
+#[derive(Debug, Drop)]
+pub struct UnreadObject {
+    pub kind: ObjectKind,
+    /// Its name, without control characters.
+    pub name: String,
 }
 
 /// The fault of an order that is not caused by one of its values, with the number that is printed for it.
@@ -91,6 +134,8 @@ pub enum ExplainedFault {
     NoClock,
     /// 76: the record of an import cannot be read.
     NoRecord,
+    /// 76: the orders of a batch cannot be read.
+    NoOrders,
     /// 76: the server cannot listen on the port.
     NoPort,
     /// 77: the output could not be written.

@@ -23,8 +23,8 @@ use store_sql::{CopyFault, copy_tables};
 ///
 /// # Guarantees
 ///
-/// `copy`: a reported copy has exactly the club's tables. `after_crash`: after an error or a crash the copy is empty or
-/// complete. `untouched`: after `StoreFailed` the copy was not touched.
+/// `copied`: a reported copy has exactly the club's tables. `after_crash`: after an error or a crash the copy is empty
+/// or complete. `untouched`: after `StoreFailed` the copy was not touched.
 pub fn back_up<S: Alter, T: Alter>(
     alloc: Global,
     club: &mut Connection<S>,
@@ -41,7 +41,7 @@ pub fn back_up<S: Alter, T: Alter>(
     ensures after_crash { HasCleanDisk (state S.Store club.new) → HasCleanDisk (state T.Store copy.new) →
         (content : _) → HasRows content (state S.Store club.old) → IsExactlyEmpty (state T.Store copy.old) →
         (db : _) → (state T.Store copy.new).may_leave db → IsEmpty db ⊎ Leaves content db }
-    ensures stays_open { HasCleanDisk (state S.Store club.new) → result ≡ Report.BackupFailed →
+    ensures unchanged { HasCleanDisk (state S.Store club.new) → result ≡ Report.BackupFailed →
         KeepsContent (state S.Store club.old) (state S.Store club.new) }
     ensures untouched { (fault : _) → result ≡ Report.StoreFailed fault → copy.new ≡ copy.old }
 {

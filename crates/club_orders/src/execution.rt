@@ -215,7 +215,7 @@ pub fn verify<S: Alter>(alloc: Global, conn: Connection<S>) -> (Report, Connecti
         HoldClub (state S.Store conn).committed.trees }
     ensures keeps { HasCleanDisk (state S.Store result.1) → Opens (state S.Store conn) →
         IsKept (state S.Store conn) (state S.Store result.1) }
-    ensures possible_faults { result.0 ≢ Report.Sound → OnlyUnopened result.0 (λ fault. ⊤) }
+    ensures possible_reports { result.0 ≢ Report.Sound → OnlyUnopened result.0 (λ fault. ⊤) }
     ensures same { HasCleanDisk (state S.Store result.1) → result.0 ≡ Report.Sound →
         KeepsContent (state S.Store conn) (state S.Store result.1) }
     // The schema of an accepted file is equivalent to a club's, whatever `CREATE` statements made it.

@@ -1,15 +1,19 @@
 //! Prints reports with an explanation as a second line.
 
-ghost use Rattle.std.specs.Prelude.{◌≡◌, ◌≢◌, ◌⊎◌, ℕ, [], take, string_bytes};
+ghost use Rattle.std.specs.Prelude.{◌≡◌, ◌≢◌, ◌⊎◌, ℕ, [], option_copied, take, string_bytes};
 ghost use Rattle.std.specs.Io.KnownBytes.{Appends};
-ghost use Rattle.club_orders.specs.Explained.{answer_explained, explained_at, opening_explained, report_explained};
+ghost use Rattle.club_orders.specs.Batches.{IsBegunWith};
+ghost use Rattle.club_orders.specs.Explained.{answer_explained, explanation_line, input_explained, line_at};
 ghost use Rattle.club_orders.specs.Explained.{IsFaultExplained, IsRefusalExplained, lost_explained};
-ghost use Rattle.club_orders.specs.Explained.{question_explained, second_line, stop_explained, task_explained};
+ghost use Rattle.club_orders.specs.Explained.{opening_explained, question_explained, report_explained, second_line};
+ghost use Rattle.club_orders.specs.Explained.{stop_explained, task_explained, unread_of};
+ghost use Rattle.club_orders.specs.Lines.{object_line};
 ghost use Rattle.club_orders.specs.Report.{report_status, report_text};
 
 use crate::report::{DONE, Report, print};
+use crate::texts::{object_end, object_text};
 use crate::written::write_out;
-use crate::{ExplainedFault, Explanation, WrongValue, explain_refusal};
+use crate::{ExplainedFault, Explanation, UnreadObject, WrongValue, explain_refusal};
 use cli::Task;
 use club_requests::{Outcome, Question, Refusal};
 use std::io::Write;
@@ -33,7 +37,21 @@ fn task_explained(task: &Task, refusal: Refusal) -> Explanation
     match task {
         Task::Request(command) => explain_refusal(refusal, command),
         Task::Ask(question) => question_explained(question, refusal),
+        // A query of a batch asks for a member of a round robin.
+        Task::Batch(_) if refusal == Refusal::BadValue => {
+            Explanation::Value(WrongValue::SeatedMember)
+        }
         _ => Explanation::Refusal(refusal),
+    }
+}
+
+// The explanation of an input that cannot be read.
+fn input_explained(task: &Task) -> ExplainedFault
+    ensures { result ≡ input_explained task.now }
+{
+    match task {
+        Task::Batch(_) => ExplainedFault::NoOrders,
+        _ => ExplainedFault::NoRecord,
     }
 }
 
@@ -54,7 +72,8 @@ fn opening_explained(task: &Task, fault: OpenFault) -> ExplainedFault
     }
 }
 
-fn stop_explained(fault: StoreFault) -> ExplainedFault
+/// The explanation of a fault of an open club.
+pub(crate) fn stop_explained(fault: StoreFault) -> ExplainedFault
     ensures { result ≡ stop_explained fault }
 {
     match fault {
@@ -86,8 +105,11 @@ fn report_explained(task: &Task, report: &Report) -> Option<Explanation>
         Report::BackupFailed => Some(Explanation::Fault(ExplainedFault::NoCopy)),
         Report::InUse => Some(Explanation::Fault(ExplainedFault::InUse)),
         Report::NotOpened(cause) => Some(Explanation::Fault(ExplainedFault::NotOpened(*cause))),
+        // It has a line of its own, with the object's name.
+        Report::Unread(_) => None,
+        Report::ValueRefused(value) => Some(Explanation::Value(*value)),
         Report::NoClock => Some(Explanation::Fault(ExplainedFault::NoClock)),
-        Report::InputFailed => Some(Explanation::Fault(ExplainedFault::NoRecord)),
+        Report::InputFailed => Some(Explanation::Fault(input_explained(task))),
         Report::PortUnavailable => Some(Explanation::Fault(ExplainedFault::NoPort)),
         Report::NoMemory => Some(Explanation::Fault(ExplainedFault::Memory)),
         Report::Ready => None,
@@ -96,7 +118,7 @@ fn report_explained(task: &Task, report: &Report) -> Option<Explanation>
         Report::AlreadyUpgraded => None,
         Report::Copied => None,
         Report::Shown => None,
-        // The report of a batch has a line for each request instead.
+        // The report of a batch has a line for each refused request instead.
         Report::Batched(_) => None,
         Report::Listening(_) => None,
     }
@@ -113,38 +135,78 @@ fn lost_explained(report: &Report) -> ExplainedFault
     }
 }
 
-// The explanation to print with this exit status: of the report, or of the loss of its line.
-fn explained_at(status: u8, task: &Task, report: &Report) -> Option<Explanation>
-    ensures { result ≡ explained_at status task.now report.now }
+// The line of an explanation; empty if there is none.
+fn explanation_line(explanation: Option<Explanation>) -> &'static str
+    ensures { result.now ≡ explanation_line explanation }
 {
-    if status == report.status() {
-        report_explained(task, report)
-    } else {
-        Some(Explanation::Fault(lost_explained(report)))
-    }
-}
-
-// The second line; empty if none was requested or there is nothing to explain.
-fn second_line(explains: bool, explanation: Option<Explanation>) -> &'static str
-    ensures { result.now ≡ second_line explains explanation }
-{
-    if !explains {
-        return "";
-    }
     match explanation {
         Some(explanation) => explanation.line(),
         None => "",
     }
 }
 
-/// The report on a task, with what its printing needs.
+// The object because of which a file was not opened.
+fn unread_of(report: &Report) -> Option<&UnreadObject>
+    ensures { option_copied result ≡ unread_of report.now }
+{
+    match report {
+        Report::Unread(object) => Some(object),
+        _ => None,
+    }
+}
+
+// Writes the line of an object that is not read, or a prefix of it if the writer fails.
+fn write_object<E: Write>(object: &UnreadObject, err: &mut E)
+    ensures { IsBegunWith (E.contents err.old) (E.contents err.new) (object_line object.now) }
+{
+    if !write_out(err, object_text(object.kind).as_bytes()) {
+        return;
+    }
+    if !write_out(err, object.name.as_bytes()) {
+        return;
+    }
+    let _is_told = write_out(err, object_end().as_bytes());
+}
+
+// Writes the explanation of a report that was printed with this status, or a prefix of it if the writer fails.
+fn write_explanation<E: Write>(status: u8, task: &Task, report: &Report, err: &mut E)
+    ensures { IsBegunWith (E.contents err.old) (E.contents err.new) (line_at status task.now report.now) }
+{
+    if status != report.status() {
+        let lost = Explanation::Fault(lost_explained(report));
+        let _is_told = write_out(err, lost.line().as_bytes());
+        return;
+    }
+    match unread_of(report) {
+        Some(object) => write_object(object, err),
+        None => {
+            let line = explanation_line(report_explained(task, report));
+            let _is_told = write_out(err, line.as_bytes());
+        }
+    }
+}
+
+// Writes the second line, if one is requested, or a prefix of it if the writer fails.
+fn write_second_line<E: Write>(status: u8, given: &TaskReport<'_>, err: &mut E)
+    ensures { IsBegunWith (E.contents err.old) (E.contents err.new)
+        (second_line given.now.explains status given.now.task.now given.now.report.now) }
+{
+    let TaskReport {
+        task,
+        report,
+        explains,
+    } = *given;
+    if !explains {
+        return;
+    }
+    write_explanation(status, task, report, err)
+}
+
+/// A task, its report, and whether a second line explains a refusal or a fault.
 #[derive(Clone, Copy)]
 pub struct TaskReport<'a> {
-    /// The task.
     pub task: &'a Task,
-    /// How it ended.
     pub report: &'a Report,
-    /// Whether a second line explains a refusal or a fault.
     pub explains: bool,
 }
 
@@ -166,13 +228,7 @@ pub fn print_explained<O: Write, E: Write>(
         (E.contents err.old) (E.contents err.new) }
     ensures silent { report_status given.now.report.now ≢ 0 → out.new ≡ out.old }
 {
-    let TaskReport {
-        task,
-        report,
-        explains,
-    } = *given;
-    let status = print(line, report, out, err);
-    let second = second_line(explains, explained_at(status, task, report));
-    let _is_told = write_out(err, second.as_bytes());
+    let status = print(line, given.report, out, err);
+    write_second_line(status, given, err);
     status
 }

@@ -7,8 +7,8 @@
 //!   first is refused, none is executed.
 //! - `back_up` (`copied`, `after_crash`, `reads`): after `copied` the copy has exactly the club's tables. Otherwise a
 //!   crash leaves no table, or all; the club is only read.
-//! - `back_up` (`untouched`, `stays_open`): if a call of the club, or memory, is blamed, nothing was done to the copy;
-//!   if the copy is blamed, the club is unchanged.
+//! - `back_up` (`untouched`, `unchanged`): if reading the club or an allocation failed, the copy was not touched;
+//!   if writing the copy failed, the club is unchanged.
 //! - `verify` (`same`, `keeps`): a club that is found sound is unchanged, and a crash leaves what was committed.
 //! - `print` (`status`, `done`, `refused`, `told`, `silent`): a report is printed to the stream of its status, or a
 //!   prefix if that fails.
@@ -16,6 +16,8 @@
 //!   batch.
 //! - `print_explained` (`refused`, `told`), `Explanation::line`, `explain_refusal`: with `--explain` a refusal or a
 //!   fault is followed by its explanation, or a prefix of it.
+//! - `print_batch_explained` (`explained`, `told`): with `--explain` each refused order of a batch is explained behind
+//!   the number of its line.
 #![tactic(auto)]
 
 pub mod batch;
@@ -24,14 +26,18 @@ pub mod causes;
 pub mod copying;
 pub mod execution;
 mod explained;
+mod explained_batch;
 mod open_club;
 pub mod report;
 mod texts;
 mod written;
 
 pub use batched::{BatchResults, print_batch};
-pub use causes::{ExplainedFault, Explanation, FileFault, WrongValue, explain_refusal};
+pub use causes::{
+    ExplainedFault, Explanation, FileFault, ObjectKind, UnreadObject, WrongValue, explain_refusal,
+};
 pub use copying::back_up;
 pub use execution::{act, verify};
 pub use explained::{TaskReport, print_explained};
+pub use explained_batch::{BatchReport, print_batch_explained};
 pub use report::{BAD_WORDS, DONE, FAULT, REFUSED, Report, print};

@@ -6,7 +6,7 @@ ghost use Rattle.club_orders.specs.Report.{report_status, report_text};
 ghost use Rattle.club_orders.specs.internal.Report.{IsFaultTold};
 
 use crate::batched::{BatchResults, write_fault};
-use crate::causes::FileFault;
+use crate::causes::{FileFault, UnreadObject, WrongValue};
 use crate::written::write_out;
 use club_requests::Outcome;
 use std::alloc::AllocError;
@@ -56,6 +56,10 @@ pub enum Report {
     InUse,
     /// The file was not opened for another reason.
     NotOpened(FileFault),
+    /// The file was not opened because it has this object.
+    Unread(UnreadObject),
+    /// The command line is refused for this value, before the file is opened.
+    ValueRefused(WrongValue),
     /// The system clock is missing or outside 0..=253402300799.
     NoClock,
     /// The record to import cannot be read.
@@ -90,6 +94,8 @@ impl Report {
             Report::StoreFailed(_) => FAULT,
             Report::InUse => FAULT,
             Report::NotOpened(_) => FAULT,
+            Report::Unread(_) => FAULT,
+            Report::ValueRefused(_) => REFUSED,
             Report::NoClock => FAULT,
             Report::InputFailed => FAULT,
             Report::Listening(_) => DONE,
@@ -119,6 +125,8 @@ fn write_report(text: &mut String, report: &Report) -> Result<(), AllocError>
         Report::StoreFailed(fault) => writeln!(text, "store {fault}"),
         Report::InUse => writeln!(text, "store 73 Store"),
         Report::NotOpened(_) => writeln!(text, "store 73 Store"),
+        Report::Unread(_) => writeln!(text, "store 73 Store"),
+        Report::ValueRefused(_) => writeln!(text, "refused 65 BadValue"),
         Report::NoClock => writeln!(text, "store 76 Input"),
         Report::InputFailed => writeln!(text, "store 76 Input"),
         Report::Listening(port) => writeln!(text, "listening 127.0.0.1:{port}"),
@@ -137,14 +145,15 @@ pub(crate) fn report_output_failure<E: Write>(err: &mut E, line: &str) -> u8
 }
 
 /// Prints a report: a result to standard output, a refusal or fault to standard error. Returns the exit status, or 3 if
-/// the line could not be built or written.
+/// the line could not be built, or that of a result not written. A refusal that cannot be written keeps its status.
 /// The answer to a query is already printed, so nothing follows it; the lines of a batch are printed by `print_batch`.
 /// `line` is an empty buffer with preallocated room for a line.
 pub fn print<O: Write, E: Write>(line: String, report: &Report, out: &mut O, err: &mut E) -> u8
     requires { string_bytes line ≡ [] }
     ensures status { (result ≡ report_status report.now) ⊎ (result ≡ 3) }
     ensures done { result ≡ 0 → Appends (O.contents out.old) (O.contents out.new) (report_text report.now) }
-    ensures refused { result ≡ 1 → Appends (E.contents err.old) (E.contents err.new) (report_text report.now) }
+    ensures refused { result ≡ 1 → (n : ℕ) ×
+        Appends (E.contents err.old) (E.contents err.new) (take n (report_text report.now)) }
     ensures told { result ≡ 3 → IsFaultTold report.now (E.contents err.old) (E.contents err.new) }
     ensures silent { report_status report.now ≢ 0 → out.new ≡ out.old }
 {
@@ -160,9 +169,6 @@ pub fn print<O: Write, E: Write>(line: String, report: &Report, out: &mut O, err
         }
         return report_output_failure(err, "store 77 Output\n");
     }
-    if write_out(err, line.as_bytes()) {
-        status
-    } else {
-        FAULT
-    }
+    let _is_printed = write_out(err, line.as_bytes());
+    status
 }

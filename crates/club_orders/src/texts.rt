@@ -1,9 +1,10 @@
 //! The texts of the explanations: one line per number; for 65, 70, 71, 73 and 76 one line per cause.
 
 ghost use Rattle.std.specs.Prelude.{◌≡◌};
-ghost use Rattle.club_orders.specs.Lines.{fault_line, file_line, move_line, record_line, refusal_line, value_line};
+ghost use Rattle.club_orders.specs.Lines.{fault_line, file_line, move_line, object_end, object_text, record_line};
+ghost use Rattle.club_orders.specs.Lines.{refusal_line, value_line};
 
-use crate::causes::{ExplainedFault, FileFault, WrongValue};
+use crate::causes::{ExplainedFault, FileFault, ObjectKind, WrongValue};
 use club_requests::Refusal;
 use club_rules::{GameKind, MoveRefusal, RecordFormat, RecordRefusal};
 
@@ -146,6 +147,17 @@ const MOVE_TEXT: &str = "TEXT is longer than 200 bytes\n";
 
 const LISTED_MEMBER: &str = "--member names no member; 'members' lists them\n";
 
+const SEATED_NAME: &str =
+    "this value is not allowed: each NAME must be 1 to 24 letters, digits, '.', '_' or '-'\n";
+
+const NAME_TWICE: &str = "a NAME stands twice\n";
+
+const SEATED_MEMBER: &str = "a NAME is no member's; 'members' lists them\n";
+
+const KEY_PREFIX: &str =
+    "this value is not allowed: PREFIX and the number of each game must be 1 to 24 letters, \
+    digits, '.', '_' or '-'\n";
+
 // Faults of the file, memory, input and output, 70 to 77.
 
 // 70
@@ -185,6 +197,29 @@ const FOREIGN_LOG: &str =
     may have put it there; remove it, and run 'verify'\n";
 // 73
 const LONG_NAME: &str = "the name of FILE is too long for a log beside it: take a shorter one\n";
+// 73, of init
+const NOT_PRIVATE: &str =
+    "FILE is empty and another user's, so that its mode cannot be set to 600: run 'init' as its \
+    owner, or remove it\n";
+// 73
+const UTF_16: &str = "the texts of FILE are in UTF-16: copy them into a database in UTF-8\n";
+// 73
+const AUTO_VACUUM: &str =
+    "FILE has auto_vacuum, which this program does not read: in sqlite3 give 'PRAGMA auto_vacuum \
+    = 0' and 'VACUUM'\n";
+// 73
+const RESERVED_BYTES: &str =
+    "FILE has reserved bytes in its pages, which this program does not read: copy its tables into \
+    another database\n";
+// 73
+const MALFORMED: &str =
+    "FILE is damaged, or has an object that this program does not read: 'PRAGMA integrity_check' \
+    of sqlite3 says what is damaged\n";
+// 73
+const BROKEN_RULES: &str =
+    "rows of a table break its rules, or are older than a column with a default: 'PRAGMA \
+    foreign_key_check' and 'PRAGMA integrity_check' of sqlite3 name the former, and an UPDATE of \
+    the column helps the latter\n";
 // 73
 const NOT_OPENED: &str = "FILE could not be opened: check the disk, and run the command again\n";
 // 73
@@ -198,7 +233,9 @@ const MEMORY: &str = "out of memory: close other programs, then run the command 
 const NO_CLOCK: &str =
     "the system clock cannot be read or is out of range: set it, or give --now\n";
 // 76
-const NO_RECORD: &str = "RECORD or ORDERS cannot be read: check its path\n";
+const NO_RECORD: &str = "RECORD cannot be read: check its path\n";
+// 76
+const NO_ORDERS: &str = "ORDERS cannot be read: check its path\n";
 // 76
 const NO_PORT: &str =
     "the server cannot listen on PORT: another program uses it, or you may not use this port\n";
@@ -208,6 +245,21 @@ const NO_OUTPUT: &str =
 // 77
 const NO_COPY: &str =
     "FILE2 must be a new name, not that of a log, in a folder that can be written and has room\n";
+
+// Objects that are not read (73), before and behind the name.
+
+const VIRTUAL_TABLE: &str = "FILE has the virtual table ";
+
+const VIEW: &str = "FILE has the view ";
+
+const VIEW_TRIGGER: &str = "FILE has the trigger on a view ";
+
+const NAMESAKE: &str = "FILE has, with the name of a table or a view, the trigger ";
+
+const TABLE: &str = "FILE has, WITHOUT ROWID and with foreign keys, the table ";
+
+const OBJECT_END: &str =
+    ", which this program does not read: remove it, or keep it in a file of its own\n";
 
 /// The explanation of a refusal.
 pub(crate) fn refusal_line(refusal: Refusal) -> &'static str
@@ -295,6 +347,10 @@ pub(crate) fn value_line(value: WrongValue) -> &'static str
         WrongValue::PlayerOrRecord => PLAYER_OR_RECORD,
         WrongValue::MoveText => MOVE_TEXT,
         WrongValue::ListedMember => LISTED_MEMBER,
+        WrongValue::SeatedName => SEATED_NAME,
+        WrongValue::NameTwice => NAME_TWICE,
+        WrongValue::SeatedMember => SEATED_MEMBER,
+        WrongValue::KeyPrefix => KEY_PREFIX,
     }
 }
 
@@ -311,6 +367,12 @@ fn file_line(fault: FileFault) -> &'static str
         FileFault::Journal => JOURNAL,
         FileFault::ForeignLog => FOREIGN_LOG,
         FileFault::LongName => LONG_NAME,
+        FileFault::NotPrivate => NOT_PRIVATE,
+        FileFault::Utf16 => UTF_16,
+        FileFault::AutoVacuum => AUTO_VACUUM,
+        FileFault::ReservedBytes => RESERVED_BYTES,
+        FileFault::Malformed => MALFORMED,
+        FileFault::BrokenRules => BROKEN_RULES,
         FileFault::Failed => NOT_OPENED,
     }
 }
@@ -332,8 +394,29 @@ pub(crate) fn fault_line(fault: ExplainedFault) -> &'static str
         ExplainedFault::Memory => MEMORY,
         ExplainedFault::NoClock => NO_CLOCK,
         ExplainedFault::NoRecord => NO_RECORD,
+        ExplainedFault::NoOrders => NO_ORDERS,
         ExplainedFault::NoPort => NO_PORT,
         ExplainedFault::NoOutput => NO_OUTPUT,
         ExplainedFault::NoCopy => NO_COPY,
     }
+}
+
+/// What stands before the name of an object that is not read.
+pub(crate) fn object_text(kind: ObjectKind) -> &'static str
+    ensures { result.now ≡ object_text kind }
+{
+    match kind {
+        ObjectKind::VirtualTable => VIRTUAL_TABLE,
+        ObjectKind::View => VIEW,
+        ObjectKind::ViewTrigger => VIEW_TRIGGER,
+        ObjectKind::Namesake => NAMESAKE,
+        ObjectKind::Table => TABLE,
+    }
+}
+
+/// What stands behind the name of an object that is not read.
+pub(crate) fn object_end() -> &'static str
+    ensures { result.now ≡ object_end }
+{
+    OBJECT_END
 }

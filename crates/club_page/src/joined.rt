@@ -139,6 +139,7 @@ pub fn page_1() -> &'static str
      right:-.5rem;bottom:0;min-width:1.05rem;border-radius:1rem;background:#2b2016;color:#fff;\
      font-size:.75rem;font-weight:700;line-height:1.05rem}#frame{position:relative;\
      container-type:inline-size;border-radius:.3rem;user-select:none}\
+     .study #frame{outline:3px dashed var(--accent);outline-offset:2px}\
      .draughts #frame{background:#6f4f31;padding:.35rem}.shogi #frame{display:grid;\
      grid-template-columns:minmax(0,1fr) 1.3rem;grid-template-rows:1.4rem auto;padding:0 0 .5rem .5rem;\
      background:#d3a962;box-shadow:inset 0 0 0 1px #8f6a2f}#files,#ranks{display:flex;color:#33230c;\
@@ -324,7 +325,16 @@ pub fn page_1() -> &'static str
      officer gave you the key. Your password manager needs the name to tell members apart.','Den Schl\\u0\
      0fcssel erhalten Sie vom Turnierleiter. Am Namen unterscheidet Ihr Passwortmanager mehrere Mitglied\
      er.','De sleutel krijgt u van de wedstrijdleider. Met de naam houdt uw wachtwoordmanager leden uit \
-     elkaar.','\\u30ad\\u30fc\\u306f\\u30af\\u30e9\\u30d"
+     elkaar.','\\u30ad\\u30fc\\u306f\\u30af\\u30e9\\u30d6\\u306e\\u5e79\\u4e8b\\u304c\\u767a\\u884c\\u3057\\u307e\\u305\
+     9\\u3002\\u540d\\u524d\\u306f\\u3001\\u30d1\\u30b9\\u30ef\\u30fc\\u30c9\\u30de\\u30cd\\u30fc\\u30b8\\u30e3\\u30fc\\u\
+     304c\\u4f1a\\u54e1\\u3092\\u533a\\u5225\\u3059\\u308b\\u305f\\u3081\\u306b\\u4f7f\\u3044\\u307e\\u3059\\u3002','La \
+     cl\\u00e9 vous est remise par le responsable du club. Le nom permet \\u00e0 votre gestionnaire de mot\
+     s de passe de distinguer les membres.'],otherName:['This key belongs to {name}\
+     . You are signed in as {name}.','Dieser Schl\\u00fcssel geh\\u00f6rt {name}. Sie sind als {name} \
+     angemeldet.','Deze sleutel is van {name}. U bent aangemeld als {name}\
+     .','\\u3053\\u306e\\u30ad\\u30fc\\u306f{name}\\u3055\\u3093\\u306e\\u3082\\u306e\\u3067\\u3059\\u3002{name}\
+     \\u3055\\u3093\\u3068\\u3057\\u3066\\u30ed\\u30b0\\u30a4\\u30f3\\u3057\\u307e\\u3057\\u305f\\u3002','Cette cl\\u00\
+     e9 appartient \\u00e0 {name}. Vous jo"
 }
 
 /// Part 2 of the page, in ASCII.
@@ -332,16 +342,7 @@ pub fn page_1() -> &'static str
 pub fn page_2() -> &'static str
     ensures { result.now ≡ page_2 }
 {
-    "6\\u306e\\u5e79\\u4e8b\\u304c\\u767a\\u884c\\u3057\\u307e\\u3059\\u3002\\u540d\\u524d\\u306f\\u3001\\u30d1\\u30b9\\\
-     u30ef\\u30fc\\u30c9\\u30de\\u30cd\\u30fc\\u30b8\\u30e3\\u30fc\\u304c\\u4f1a\\u54e1\\u3092\\u533a\\u5225\\u3059\\u30\
-     8b\\u305f\\u3081\\u306b\\u4f7f\\u3044\\u307e\\u3059\\u3002','La cl\\u00e9 vous est remise par le responsable \
-     du club. Le nom permet \\u00e0 votre gestionnaire de mots de passe de distinguer les membres.'],othe\
-     rName:['This key belongs to {name}. You are signed in as {name}\
-     .','Dieser Schl\\u00fcssel geh\\u00f6rt {name}. Sie sind als {name} \
-     angemeldet.','Deze sleutel is van {name}. U bent aangemeld als {name}\
-     .','\\u3053\\u306e\\u30ad\\u30fc\\u306f{name}\\u3055\\u3093\\u306e\\u3082\\u306e\\u3067\\u3059\\u3002{name}\
-     \\u3055\\u3093\\u3068\\u3057\\u3066\\u30ed\\u30b0\\u30a4\\u30f3\\u3057\\u307e\\u3057\\u305f\\u3002','Cette cl\\u00\
-     e9 appartient \\u00e0 {name}. Vous jouez sous le nom {name}\
+    "uez sous le nom {name}\
      .'],remember:['Stay signed in on this device','Auf diesem Ger\\u00e4t angemeldet bleiben','Aangemeld \
      blijven op dit apparaat','\\u3053\\u306e\\u7aef\\u672b\\u3067\\u30ed\\u30b0\\u30a4\\u30f3\\u3057\\u305f\\u307e\\\
      u307e\\u306b\\u3059\\u308b','Garder la session ouverte sur cet appareil'],signIn:['Sign in','Anmelden'\
@@ -349,35 +350,45 @@ pub fn page_2() -> &'static str
      \\u30ed\\u30b0\\u30a2\\u30a6\\u30c8','Se d\\u00e9connecter'],home:['My games','Meine Partien','Mijn parti\
      jen','\\u5bfe\\u5c40\\u4e00\\u89a7','Mes parties'],settings:['Settings','Einstellungen','Instellingen',\
      '\\u8a2d\\u5b9a','R\\u00e9glages'],done:['Done','Fertig','Klaar','\\u9589\\u3058\\u308b','Termin\\u00e9'],\
-     confirmChoice:['Confirm each move before it is sent','Jeden Zug vor dem Senden best\\u00e4tigen','El\
-     ke zet bevestigen voordat deze wordt verzonden','\\u6307\\u3057\\u624b\\u3092\\u9001\\u4fe1\\u3059\\u308b\\u\
-     524d\\u306b\\u78ba\\u8a8d\\u3059\\u308b','Confirmer chaque coup avant l\\u2019envoi'],animateChoice:['Ani\
-     mate moves','Z\\u00fcge animieren','Zetten animeren','\\u99d2\\u306e\\u52d5\\u304d\\u3092\\u30a2\\u30cb\\u30\
-     e1\\u30fc\\u30b7\\u30e7\\u30f3\\u3067\\u8868\\u793a\\u3059\\u308b','Animer les coups'],alertsChoice:['Notify \
-     me when something is waiting for me or a game ends, while this page is open in a tab','Mich benachr\
-     ichtigen, wenn etwas auf mich wartet oder eine Partie endet, solange diese Seite in einem Tab ge\\u0\
-     0f6ffnet ist','Een melding geven als er iets op mij wacht of een partij is afgelopen, zolang deze p\
-     agina in een tabblad openstaat','\\u624b\\u756a\\u3084\\u6311\\u6226\\u306a\\u3069\\u304c\\u6765\\u305f\\u3068\
-     \\u304d\\u3001\\u5bfe\\u5c40\\u304c\\u7d42\\u308f\\u3063\\u305f\\u3068\\u304d\\u306b\\u901a\\u77e5\\u3059\\u308b\\uf\
-     f08\\u3053\\u306e\\u30da\\u30fc\\u30b8\\u3092\\u30bf\\u30d6\\u3067\\u958b\\u3044\\u3066\\u3044\\u308b\\u9593\\uff09\
-     ','M\\u2019avertir quand quelque chose m\\u2019attend ou qu\\u2019une partie se termine, tant que cett\
-     e page est ouverte dans un onglet'],soundChoice:['Play a sound in the same cases','In denselben F\\u\
-     00e4llen einen Ton abspielen','In dezelfde gevallen een geluid afspelen','\\u540c\\u3058\\u3068\\u304d\\\
-     u306b\\u97f3\\u3092\\u9cf4\\u3089\\u3059','\\u00c9mettre un son dans les m\\u00eames cas'],alertsRefused:[\
-     'The browser does not allow notifications from this page.','Der Browser erlaubt dieser Seite keine \
-     Benachrichtigungen.','De browser staat meldingen van deze pagina niet toe.','\\u30d6\\u30e9\\u30a6\\u30\
-     b6\\u30fc\\u304c\\u3053\\u306e\\u30da\\u30fc\\u30b8\\u306e\\u901a\\u77e5\\u3092\\u8a31\\u53ef\\u3057\\u3066\\u3044\\\
-     u307e\\u305b\\u3093\\u3002','Le navigateur n\\u2019autorise pas les notifications de cette page.'],lett\
-     ersChoice:['Western letters on shogi pieces','Lateinische Buchstaben auf Shogi-Steinen','Latijnse l\
-     etters op shogistukken','\\u5c06\\u68cb\\u306e\\u99d2\\u3092\\u30a2\\u30eb\\u30d5\\u30a1\\u30d9\\u30c3\\u30c8\\u\
-     3067\\u8868\\u793a\\u3059\\u308b','Lettres latines sur les pi\\u00e8ces de shogi'],loading:['Loading\\u20\
-     26','Wird geladen\\u00a0\\u2026','Laden\\u2026','\\u8aad\\u307f\\u8fbc\\u307f\\u4e2d\\u2026','Chargement\\u20\
-     26'],missing:['The address may be wrong, or belong to another club.','Vielleicht ist die Adresse fa\
-     lsch oder geh\\u00f6rt zu einem anderen Club.','Misschien is het adres onjuist of van een andere clu\
-     b.','\\u30a2\\u30c9\\u30ec\\u30b9\\u304c\\u9593\\u9055\\u3063\\u3066\\u3044\\u308b\\u304b\\u3001\\u5225\\u306e\\u30\
-     af\\u30e9\\u30d6\\u306e\\u3082\\u306e\\u304b\\u3082\\u3057\\u308c\\u307e\\u305b\\u3093\\u3002','L\\u2019adresse e\
-     st peut-\\u00eatre erron\\u00e9e ou celle d\\u2019un autre club.'],news:['Games awaiting your move: {m\
-     oves}. Challenges: {challenges}.','Partien, in denen Sie am Zug sind: {moves}\
+     analyse:['Analyse','Analysieren','Analyseren','\\u691c\\u8a0e\\u3059\\u308b','Analyser'],analysis:['Ana\
+     lysis:','Analyse:','Analyse:','\\u691c\\u8a0e\\uff1a','Analyse\\u00a0:'],analysisHint:['Try moves for b\
+     oth sides. None is sent, and your opponent sees nothing.','Probieren Sie Z\\u00fcge f\\u00fcr beide S\
+     eiten. Keiner wird gesendet, und Ihr Gegner sieht nichts davon.','Probeer zetten voor beide kanten. \
+     Er wordt niets verzonden en uw tegenstander ziet er niets van.','\\u53cc\\u65b9\\u306e\\u624b\\u3092\\u8a\
+     66\\u305b\\u307e\\u3059\\u3002\\u9001\\u4fe1\\u3055\\u308c\\u305a\\u3001\\u76f8\\u624b\\u306b\\u3082\\u898b\\u3048\\\
+     u307e\\u305b\\u3093\\u3002','Essayez des coups des deux c\\u00f4t\\u00e9s. Rien n\\u2019est envoy\\u00e9, \
+     et votre adversaire n\\u2019en voit rien.'],undo:['Undo','R\\u00fcckg\\u00e4ngig','Ongedaan maken','\\u\
+     4e00\\u624b\\u623b\\u3059','Annuler'],backToGame:['Back to the game','Zur\\u00fcck zur Partie','Terug n\
+     aar de partij','\\u5bfe\\u5c40\\u306b\\u623b\\u308b','Retour \\u00e0 la partie'],confirmChoice:['Confirm \
+     each move before it is sent','Jeden Zug vor dem Senden best\\u00e4tigen','Elke zet bevestigen voorda\
+     t deze wordt verzonden','\\u6307\\u3057\\u624b\\u3092\\u9001\\u4fe1\\u3059\\u308b\\u524d\\u306b\\u78ba\\u8a8d\\u\
+     3059\\u308b','Confirmer chaque coup avant l\\u2019envoi'],animateChoice:['Animate moves','Z\\u00fcge a\
+     nimieren','Zetten animeren','\\u99d2\\u306e\\u52d5\\u304d\\u3092\\u30a2\\u30cb\\u30e1\\u30fc\\u30b7\\u30e7\\u30\
+     f3\\u3067\\u8868\\u793a\\u3059\\u308b','Animer les coups'],alertsChoice:['Notify me when something is wa\
+     iting for me or a game ends, while this page is open in a tab','Mich benachrichtigen, wenn etwas au\
+     f mich wartet oder eine Partie endet, solange diese Seite in einem Tab ge\\u00f6ffnet ist','Een meld\
+     ing geven als er iets op mij wacht of een partij is afgelopen, zolang deze pagina in een tabblad op\
+     enstaat','\\u624b\\u756a\\u3084\\u6311\\u6226\\u306a\\u3069\\u304c\\u6765\\u305f\\u3068\\u304d\\u3001\\u5bfe\\u5c4\
+     0\\u304c\\u7d42\\u308f\\u3063\\u305f\\u3068\\u304d\\u306b\\u901a\\u77e5\\u3059\\u308b\\uff08\\u3053\\u306e\\u30da\\u\
+     30fc\\u30b8\\u3092\\u30bf\\u30d6\\u3067\\u958b\\u3044\\u3066\\u3044\\u308b\\u9593\\uff09','M\\u2019avertir quand \
+     quelque chose m\\u2019attend ou qu\\u2019une partie se termine, tant que cette page est ouverte dans \
+     un onglet'],soundChoice:['Play a sound in the same cases','In denselben F\\u00e4llen einen Ton abspi\
+     elen','In dezelfde gevallen een geluid afspelen','\\u540c\\u3058\\u3068\\u304d\\u306b\\u97f3\\u3092\\u9cf4\\\
+     u3089\\u3059','\\u00c9mettre un son dans les m\\u00eames cas'],alertsRefused:['The browser does not al\
+     low notifications from this page.','Der Browser erlaubt dieser Seite keine Benachrichtigungen.','De \
+     browser staat meldingen van deze pagina niet toe.','\\u30d6\\u30e9\\u30a6\\u30b6\\u30fc\\u304c\\u3053\\u306\
+     e\\u30da\\u30fc\\u30b8\\u306e\\u901a\\u77e5\\u3092\\u8a31\\u53ef\\u3057\\u3066\\u3044\\u307e\\u305b\\u3093\\u3002',\
+     'Le navigateur n\\u2019autorise pas les notifications de cette page.'],lettersChoice:['Western lette\
+     rs on shogi pieces','Lateinische Buchstaben auf Shogi-Steinen','Latijnse letters op shogistukken','\
+     \\u5c06\\u68cb\\u306e\\u99d2\\u3092\\u30a2\\u30eb\\u30d5\\u30a1\\u30d9\\u30c3\\u30c8\\u3067\\u8868\\u793a\\u3059\\u3\
+     08b','Lettres latines sur les pi\\u00e8ces de shogi'],loading:['Loading\\u2026','Wird geladen\\u00a0\\u\
+     2026','Laden\\u2026','\\u8aad\\u307f\\u8fbc\\u307f\\u4e2d\\u2026','Chargement\\u2026'],missing:['The addres\
+     s may be wrong, or belong to another club.','Vielleicht ist die Adresse falsch oder geh\\u00f6rt zu \
+     einem anderen Club.','Misschien is het adres onjuist of van een andere club.','\\u30a2\\u30c9\\u30ec\\u\
+     30b9\\u304c\\u9593\\u9055\\u3063\\u3066\\u3044\\u308b\\u304b\\u3001\\u5225\\u306e\\u30af\\u30e9\\u30d6\\u306e\\u308\
+     2\\u306e\\u304b\\u3082\\u3057\\u308c\\u307e\\u305b\\u3093\\u3002','L\\u2019adresse est peut-\\u00eatre erron\\u\
+     00e9e ou celle d\\u2019un autre club.'],news:['Games awaiting your move: {moves}\
+     . Challenges: {challenges}.','Partien, in denen Sie am Zug sind: {moves}\
      . Herausforderungen: {challenges}.','Partijen waarin u aan zet bent: {moves}\
      . Uitdagingen: {challenges}.','\\u624b\\u756a\\u306e\\u5bfe\\u5c40\\uff1a{moves}\
      \\u5c40\\u3002\\u6311\\u6226\\uff1a{challenges}\
@@ -549,8 +560,15 @@ pub fn page_2() -> &'static str
      '\\u540d\\u524d','Nom'],points:['Points','Punkte','Punten','\\u70b9','Points'],played:['Played','Gespi\
      elt','Gespeeld','\\u5c40\\u6570','Jou\\u00e9es'],wins:['Won','Siege','Winst','\\u52dd','Gagn\\u00e9es'],\
      draws:['Drawn','Remis','Remise','\\u5206','Nulles'],losses:['Lost','Niederlagen','Verlies','\\u6557',\
-     'Perdues'],moveCount:['{count} moves','{count} Z\\u00fcge','{count} zetten','{count}\\u624b','{count} \
-     coups'],oneMove:['{count} move','{count} Zug','{count} zet','{count}\\u624b','{count} \
+     'Perdues'],sonnebornBerger:['Sonneborn-Berger: the points won against each opponent times the point\
+     s of that opponent','Sonneborn-Berger: die Punkte gegen jeden Gegner mal dessen Punkte','Sonneborn-\
+     Berger: de punten tegen elke tegenstander maal diens punten','SB\\uff08\\u30be\\u30f3\\u30cd\\u30dc\\u30f\
+     c\\u30f3\\u30fb\\u30d9\\u30eb\\u30ac\\u30fc\\uff09\\uff1a\\u5404\\u76f8\\u624b\\u304b\\u3089\\u5f97\\u305f\\u70b9\\u\
+     00d7\\u305d\\u306e\\u76f8\\u624b\\u306e\\u70b9\\u306e\\u5408\\u8a08','Sonneborn-Berger\\u00a0: les points mar\
+     qu\\u00e9s contre chaque adversaire multipli\\u00e9s par les points de celui-ci'],inProgress:['In pro\
+     gress','Laufend','Lopend','\\u5bfe\\u5c40\\u4e2d','En cours'],moveCount:['{count} moves','{count} \
+     Z\\u00fcge','{count} zetten','{count}\\u624b','{count} coups'],oneMove:['{count} move','{count} \
+     Zug','{count} zet','{count}\\u624b','{count} \
      coup'],empty:['empty','leer','leeg','\\u7a7a\\u304d','vide'],piece:['{side} {kind}','{kind} ({side}\
      )','{kind} van {side}','{side}\\u306e{kind}','{kind} ({side}\
      )'],hand:['in hand','in der Hand','in de hand','\\u6301\\u3061\\u99d2','en main'],last:['last move','l\
@@ -623,7 +641,9 @@ pub fn page_2() -> &'static str
      \\u00f6nigseintritt kann hier nicht erkl\\u00e4rt werden','De koningsintrede kan hier niet worden gec\
      laimd','\\u3053\\u3053\\u3067\\u306f\\u5165\\u7389\\u5ba3\\u8a00\\u306f\\u3067\\u304d\\u307e\\u305b\\u3093','L\\u2\
      019entr\\u00e9e du roi ne peut pas \\u00eatre d\\u00e9clar\\u00e9e ici'],72:['The club\\u2019s file cann\
-     ot be used; please tell the officer','Die Datei des Clubs ist nicht nutzbar;"
+     ot be used; please tell the officer','Die Datei des Clubs ist nicht nutzbar; \
+     bitte informieren Sie den Turnierleiter','Het bestand van de club is niet bruikbaar; \
+     waarschuw de wed"
 }
 
 /// Part 3 of the page, in ASCII.
@@ -631,10 +651,9 @@ pub fn page_2() -> &'static str
 pub fn page_3() -> &'static str
     ensures { result.now ≡ page_3 }
 {
-    " bitte informieren Sie den Turnierleiter','Het bestand van de club is niet bruikbaar; \
-     waarschuw de wedstrijdleider','\\u30af\\u30e9\\u30d6\\u306e\\u30c7\\u30fc\\u30bf\\u3092\\u5229\\u7528\\u3067\\u\
-     304d\\u307e\\u305b\\u3093\\u3002\\u5e79\\u4e8b\\u306b\\u77e5\\u3089\\u305b\\u3066\\u304f\\u3060\\u3055\\u3044','Le \
-     fichier du club est inutilisable\\u202f; \
+    "strijdleider','\\u30af\\u30e9\\u30d6\\u306e\\u30c7\\u30fc\\u30bf\\u3092\\u5229\\u7528\\u3067\\u304d\\u307e\\u305\
+     b\\u3093\\u3002\\u5e79\\u4e8b\\u306b\\u77e5\\u3089\\u305b\\u3066\\u304f\\u3060\\u3055\\u3044','Le fichier du clu\
+     b est inutilisable\\u202f; \
      pr\\u00e9venez le responsable'],73:['The club is unavailable','Der Club ist gerade nicht verf\\u00fcg\
      bar','De club is even niet beschikbaar','\\u30af\\u30e9\\u30d6\\u306f\\u73fe\\u5728\\u5229\\u7528\\u3067\\u30\
      4d\\u307e\\u305b\\u3093','Le club est momentan\\u00e9ment indisponible'],ending:['{who}: {why} \
@@ -811,13 +830,14 @@ pub fn page_3() -> &'static str
      function complain(words=''){fill('wrong',...line(words,button(text('dismiss'),()=>complain())))}\
      function sayUnsent(words,again,dismissed){fill('unsent',...line(words,button(text('again'),again,''\
      ,'main'),button(text('dismiss'),dismissed)))}const lookAgain=()=>looker();\
-     const startNotices=(look)=>{looker=look};async function perform(deed){try{await deed();complain()}\
-     catch(error){if(isPassing(error))sayAway(error.message);\
-     complain(isPassing(error)?text('notDone',{why:error.message}):error.message)}await lookAgain()}\
-     const RANKS=[...'abcdefghi'];const FAR=['abc','ghi'];const isUpper=(piece)=>\
-     piece===piece.toUpperCase();const ownerOf=(piece)=>(isUpper(piece)?0:1);\
-     const CROSS=[[0,-1],[0,1],[1,0],[-1,0]];const SLANTED=[[1,-1],[-1,-1],[1,1],[-1,1]];\
-     const GOLD=[...CROSS,[1,-1],[-1,-1]];const ALL=[...CROSS,...SLANTED];\
+     const startNotices=(look)=>{looker=look};async function answerOf(deed){let found;\
+     try{found=await deed();complain()}catch(error){if(isPassing(error))sayAway(error.message);\
+     complain(isPassing(error)?text('notDone',{why:error.message}):error.message)}return found}\
+     async function perform(deed){await answerOf(deed);await lookAgain()}const RANKS=[...'abcdefghi'];\
+     const FAR=['abc','ghi'];const isUpper=(piece)=>piece===piece.toUpperCase();const ownerOf=(piece)=>\
+     (isUpper(piece)?0:1);const CROSS=[[0,-1],[0,1],[1,0],[-1,0]];\
+     const SLANTED=[[1,-1],[-1,-1],[1,1],[-1,1]];const GOLD=[...CROSS,[1,-1],[-1,-1]];\
+     const ALL=[...CROSS,...SLANTED];\
      const STEPS={K:ALL,G:GOLD,S:[[0,-1],...SLANTED],N:[[1,-2],[-1,-2]],P:[[0,-1]],'+S':GOLD,'+N':GOLD,'\
      +L':GOLD,'+P':GOLD,'+R':SLANTED,'+B':CROSS};\
      const LINES={R:CROSS,B:SLANTED,L:[[0,-1]],'+R':CROSS,'+B':SLANTED};\
@@ -955,15 +975,8 @@ pub fn page_3() -> &'static str
      `,words,place:`game/${it.game}`,end:kind==='game'}};return[...me.games.filter(isMine).map((it)=>\
      item(it,'noticeTurn',`ply ${it.ply}`)),...me.games.filter((it)=>!isMine(it)&&isOver(it)).map((it)=>\
      item(it,'noticeOver','over')),...me.games.filter(hasOffer).map((it)=>\
-     item(it,'noticeOffer',`offer ${it.ply}`)),...me.games.map((it)=>item(it,'noticeEnded','g"
-}
-
-/// Part 4 of the page, in ASCII.
-#[tactic(auto, unfolding(crate::specs::Joined::page_4))]
-pub fn page_4() -> &'static str
-    ensures { result.now ≡ page_4 }
-{
-    "ame')),...me.refused.map((it)=>{return{tag:`declined ${it.number}\
+     item(it,'noticeOffer',`offer ${it.ply}`)),...me.games.map((it)=>\
+     item(it,'noticeEnded','game')),...me.refused.map((it)=>{return{tag:`declined ${it.number}\
      `,words:text('noticeDeclined',{name:it.to,event:it.event}),place:''}}\
      ),...me.challenges.filter(toMe).map((it)=>{return{tag:`challenge ${it.from} ${it.number}\
      `,words:`${text('challengesYou', it)} ${it.event}`,place:''}})]}\
@@ -974,9 +987,16 @@ pub fn page_4() -> &'static str
      {fill('title',text('home'));const isNear=me.games.some((it)=>Math.abs(secondsLeft(it))<2*MINUTE);\
      const now=JSON.stringify([{...me,moment:isNear?me.moment:minute()},club,text('code')]);\
      if(now===paintedHome)return;paintedHome=now;paintGames();paintChallenges();paintClub();\
-     lookAtEnded().catch(()=>{});\
-     byId('news').textContent=text('news',{moves:me.games.filter(isMine).length,challenges:challengesToM\
-     e()})}}async function challenge(terms,tries=3){unanswered||=Math.ceil(Math.random()*CHALLENGES);\
+     lookAtEnded().catch(()=>{});byId('news').textContent=text('news',"
+}
+
+/// Part 4 of the page, in ASCII.
+#[tactic(auto, unfolding(crate::specs::Joined::page_4))]
+pub fn page_4() -> &'static str
+    ensures { result.now ≡ page_4 }
+{
+    "{moves:me.games.filter(isMine).length,challenges:challengesToMe()})}}\
+     async function challenge(terms,tries=3){unanswered||=Math.ceil(Math.random()*CHALLENGES);\
      try{await ask(`challenges/${unanswered}`,terms);unanswered=0}\
      catch(error){if(error.number!==58||!tries)throw error;unanswered=0;await challenge(terms,tries-1)}}\
      function paintWelcome(){const opening=(rules)=>miniature(rules,rules.read(rules.opening),0,[]);\
@@ -988,9 +1008,10 @@ pub fn page_4() -> &'static str
      \\u2013 ${game.second}`;const score=(game)=>\
      text('score',{pair:pair(game),result:game.result??text('running')});const WIDEST=40;const STEP=50;\
      const FEW=10;const MANY=500;let seenEvent='';let seenReplies='';let repaint=()=>{};\
-     let held={games:[]};let shownRows={};\
-     function ranked(words){return words.trim().split('\\n').slice(1).map((line)=>\
-     line.trim().split(/\\s+/).slice(0,7))}function outcome(game){if(game.end)return[reason(game)];\
+     let held={games:[],standings:[]};let shownRows={};const sums=(isRunning)=>\
+     [...[['games','played'],['wins','wins'],['draws','draws'],['losses','losses']].map(([key,head])=>\
+     [key,text(head)]),['sonneborn_berger','SB',text('sonnebornBerger')],...(isRunning?[['running',text(\
+     'inProgress')]]:[])];function outcome(game){if(game.end)return[reason(game)];\
      const seconds=secondsLeft(game);\
      const left=seconds<0?text('over'):seconds<Infinity?text('left',{span:span(seconds)}):'';\
      return[text('turn',{name:game.turn}),left]}const both=(one,other)=>[one,other].sort().join(' ');\
@@ -998,20 +1019,18 @@ pub fn page_4() -> &'static str
      make('a',{href:`#game/${it.game}`,title:score(it),ariaLabel:`${text('game')} ${it.game}\
      ${text('comma')}${score(it)}`,className:it.end?'':'running'}\
      ,it.end?String(POINTS[it.result][it.first===name?0:1]):'\\u2022')))}\
-     function crossTable(words,games,reader){const table=ranked(words);const names=table.map((it)=>\
-     it[1]);const more=[...new Set(games.flatMap((it)=>[it.first,it.second]))].filter((it)=>\
-     !names.includes(it));const rows=[...table,...more.map((it)=>['\\u2013',it,0,0,0,0,0])];\
-     const byPairs={};for(const it of games)(byPairs[both(it.first,it.second)]??=[]).push(it);\
-     const head=(label,title='')=>make('th',{scope:'col',title},label);const columns=rows.length>\
-     WIDEST?[]:rows;const cells=(row,at)=>columns.map((other,to)=>\
-     {return at===to?make('td',{className:'self'}):cell(byPairs[both(row[1],other[1])]??[],row[1])});\
+     function crossTable(standings,games,reader){const byPairs={};\
+     for(const it of games)(byPairs[both(it.first,it.second)]??=[]).push(it);\
+     const head=(label,title='')=>make('th',{scope:'col',title},label);const columns=standings.length>\
+     WIDEST?[]:standings;const counts=sums(games.some((it)=>!it.end));const cells=(row)=>\
+     columns.map((other)=>{return other===row?make('td',{className:'self'}\
+     ):cell(byPairs[both(row.member,other.member)]??[],row.member)});\
      return make('table',{className:'cross'},make('thead',{},make('tr',{}\
-     ,head('',text('place')),head(text('name')),head(text('points')),...columns.map((it,at)=>\
-     head(String(at+1),it[1])),...['played','wins','draws','losses'].map((it)=>\
-     head(text(it))))),make('tbody',{},...rows.map((row,at)=>\
-     make('tr',{className:row[1]===reader?'mine':''},make('td',{}\
-     ,String(row[0])),make('th',{scope:'row'},row[1]),make('td',{className:'points'}\
-     ,String(row[2])),...cells(row,at),...row.slice(3).map((it)=>make('td',{},String(it)))))))}\
+     ,head('',text('place')),head(text('name')),head(text('points')),...columns.map((it)=>\
+     head(String(it.place),it.member)),...counts.map(([,...it])=>head(...it)))),make('tbody',{}\
+     ,...standings.map((row)=>make('tr',{className:row.member===reader?'mine':''},make('td',{}\
+     ,String(row.place)),make('th',{scope:'row'},row.member),make('td',{className:'points'}\
+     ,String(row.points)),...cells(row),...counts.map(([key])=>make('td',{},String(row[key])))))))}\
      const moveCount=(count)=>\
      {return text(new Intl.PluralRules(text('code')).select(count)==='one'?'oneMove':'moveCount',{count}\
      )};function list(name,all,reader,kind){const sought=byId('search').value.trim().toLowerCase();\
@@ -1032,30 +1051,31 @@ pub fn page_4() -> &'static str
      list(name,some,reader,kind));\
      fill('event-games',...(found[0]||!games[0]?found:[make('p',{className:'faint',role:'status'}\
      ,text('none'))]))}function startEvent(){byId('search').oninput=()=>repaint()}\
-     async function requestEvent(name){const words=await(await request(`events/${name}/table`)).text();\
-     const{games}=await ask(`events/${name}/games`);held={words,games,at:Date.now()}}\
+     async function requestEvent(name){const{games}=await ask(`events/${name}/games`);const{standings}\
+     =await ask(`events/${name}/standings`);held={standings,games,at:Date.now()}}\
      async function lookAtEvent(name,_,isShown){if(!isShown||held.games.length<=MANY||Date.now()-held.at\
-     >LASTING)await requestEvent(name);const{words,games}=held;const{events}=await lookAtClub([name]);\
-     return(reader)=>{const kind=events.find((it)=>it.event===name)?.game;fill('title',name);\
-     const now=JSON.stringify([name,words,games,kind,reader,minute(),text('code')]);\
+     >LASTING)await requestEvent(name);const{standings,games}=held;const{events}\
+     =await lookAtClub([name]);return(reader)=>{const kind=events.find((it)=>it.event===name)?.game;\
+     fill('title',name);\
+     const now=JSON.stringify([name,standings,games,kind,reader,minute(),text('code')]);\
      if(now===seenReplies)return;seenReplies=now;fill('about',`${text(kind)} \\u00b7 ${text('scoring')}\
-     `);fill('standings',...(games[0]?[crossTable(words,games,reader)]:[make('p',{className:'empty'}\
+     `);fill('standings',...(games[0]?[crossTable(standings,games,reader)]:[make('p',{className:'empty'}\
      ,text('noGamesYet'))]));if(name!==seenEvent){byId('search').value='';shownRows={}}seenEvent=name;\
      byId('search-games').hidden=games.length<=FEW;repaint=()=>paintLists(games,reader,kind);repaint()}}\
      const FAR_ENOUGH=6;const QUICK=180;let cells={};let dragged=null;let isDragEnd=false;\
      function layCell(name,square,properties){cells[name]=make('button',{type:'button',...properties});\
      cells[name].dataset.square=square;return cells[name]}\
-     function layHand(id,rules,side,own){byId(id).hidden=!rules.hand[0];\
+     function layHand(id,rules,side){byId(id).hidden=!rules.hand[0];\
      byId(id).replaceChildren(...rules.hand.map((kind)=>\
-     {return layCell(side?kind.toLowerCase():kind,`${kind}*`,{disabled:side!==own})}))}\
-     const edge=(id,names)=>byId(id).replaceChildren(...names.map((it)=>make('span',{},it)));\
-     function layBoard(rules,near,own){const turn=(list)=>(near?list.toReversed():list);cells={};\
+     {return layCell(side?kind.toLowerCase():kind,`${kind}*`)}))}const edge=(id,names)=>\
+     byId(id).replaceChildren(...names.map((it)=>make('span',{},it)));\
+     function layBoard(rules,near){const turn=(list)=>(near?list.toReversed():list);cells={};\
      const laid=turn(rules.rows).map((row)=>{return make('div',{role:'row'},...turn(row).map((it)=>\
      layCell(it,it,{role:'gridcell',tabIndex:-1})))});laid.at(-1).firstChild.tabIndex=0;\
      byId('play').className=rules.hand[0]?'shogi':'draughts';\
      byId('board').replaceChildren(...laid,draw('svg',{id:'routes','aria-hidden':true}));\
      edge('files',turn(rules.files??[]));edge('ranks',turn(rules.ranks?.(isJapanese())??[]));\
-     layHand('far-hand',rules,1-near,own);layHand('near-hand',rules,near,own)}\
+     layHand('far-hand',rules,1-near);layHand('near-hand',rules,near)}\
      function paintCell(cell,piece,place,{rules,near,letters,marks}\
      ){const side=piece&&rules.side(piece);const kind=piece&&rules.kind(piece);\
      const name=piece?text('piece',{side:text(rules.sides[side]),kind:kindName(kind)}):text('empty');\
@@ -1066,7 +1086,8 @@ pub fn page_4() -> &'static str
      cell.replaceChildren(...(piece?[picture(kind,side,side!==near,letters)]:[]))}\
      function paintBoard({board,hand}\
      ,shown){for(const[name,cell]of Object.entries(cells)){const count=hand?.[name]??0;\
-     const isHeld=name>'A';if(isHeld)cell.dataset.count=count>1?count:'';cell.hidden=isHeld&&!count;\
+     const isHeld=name>'A';if(isHeld)cell.dataset.count=count>1?count:'';\
+     if(isHeld)cell.disabled=shown.own!==+(name>'a');cell.hidden=isHeld&&!count;\
      paintCell(cell,isHeld?name:board[name]??'',isHeld?`${text('hand')} ${count}`:name,shown)}}\
      function slide(from,to){const[start,end]=[cells[from],cells[to]];\
      if(!chosen('animate')||matchMedia('(prefers-reduced-motion: reduce)').matches)return;\
@@ -1110,38 +1131,44 @@ pub fn page_4() -> &'static str
      =it.ply||end))putAway()}const BUTTONS={start:-1000,back:-1,on:1,present:1000};let reader='';\
      let game=null;let clock=null;let told=0;let legal=[];let rules=draughts;let positions=[];\
      let written=[];let ply=null;let isFlipped=false;let touched=null;let waiting=null;let sent=null;\
-     let paintedGame='';let seen={};const players=()=>[game.first,game.second];const own=()=>\
-     players().indexOf(reader);const near=()=>((own()===1)!==isFlipped?1:0);const isMyTurn=()=>\
-     game&&!game.end&&own()===game.ply%2;const plies=()=>ply??game.ply;const first=(move)=>\
-     rules.squares(move)[0];const target=(move)=>rules.squares(move).at(-1);const tried=()=>\
-     (ply===null?waiting??sent:null);const playable=()=>(isMyTurn()&&ply===null&&!tried()?legal:[]);\
+     let study=null;let explored=0;let paintedGame='';let seen={};const players=()=>\
+     [game.first,game.second];const own=()=>players().indexOf(reader);const near=()=>\
+     ((own()===1)!==isFlipped?1:0);const isMyTurn=()=>game&&!game.end&&own()===game.ply%2;\
+     const plies=()=>(study?study.at+study.moves.length:ply??game.ply);const mover=()=>\
+     (study?plies()%2:own());const first=(move)=>rules.squares(move)[0];const target=(move)=>\
+     rules.squares(move).at(-1);const tried=()=>(ply===null&&!study?waiting??sent:null);\
+     const playable=()=>(study?study.legal:isMyTurn()&&ply===null&&!tried()?legal:[]);\
      const movesOf=(from,to)=>playable().filter((it)=>first(it)===from&&target(it)===to);\
      const isOpen=()=>game&&!byId('game').hidden;const passed=()=>(Date.now()-told)/1000;\
      const timeOf=(side)=>clock.now[side]-(clock.turn===players()[side]?passed():0);const isOverdue=()=>\
      clock.deadline!==null&&clock.moment+passed()>clock.deadline;\
      function spell(at,move=game.moves[at]){if(rules===draughts)return move;\
      if(isJapanese())return shogi.writtenInJapan(positions[at],move,at%2,game.moves[at-1]);\
-     return shogi.written(positions[at],move,at%2)}function choose(question,options,seenAt=()=>{}\
+     return shogi.written(positions[at],move,at%2)}\
+     function spellTried(move){if(rules===draughts)return move;\
+     const before=study.moves.at(-1)??game.moves[plies()-1];\
+     if(isJapanese())return shogi.writtenInJapan(study.position,move,mover(),before);\
+     return shogi.written(study.position,move,mover())}function choose(question,options,seenAt=()=>{}\
      ,looks='main'){const dialog=byId('dialog');byId('question').textContent=question;\
      return new Promise((taken)=>\
      {byId('options').replaceChildren(...[...options,text('cancel')].map((option,at)=>\
      {const made=button(option,()=>{taken(at);dialog.close()},'',at<options.length?looks:'');\
      made.onfocus=made.onpointerenter=()=>seenAt(at);made.autofocus=options.length===1&&at===1;\
      return made}));dialog.onclose=()=>taken(options.length);dialog.showModal()})}\
-     function paintPosition(){const trial=tried();const before=positions[plies()];\
+     function paintPosition(){const trial=tried();const before=study?.position??positions[plies()];\
      const position=trial?rules.play(before,trial,game.ply%2):before;\
-     const last=trial??game.moves[plies()-1];\
+     const last=trial??study?.moves.at(-1)??game.moves[plies()-1];\
      const checked=rules.checked?.(position,(plies()+!!trial)%2);\
      const mustTake=playable()[0]?.includes('x');\
      const marks={last:last?[first(last),target(last)].filter((it)=>\
      it[1]!=='*'):[],tried:waiting&&trial?[target(trial)]:[],touched:[touched],target:playable().filter(\
      (it)=>first(it)===touched).map(target),movable:playable().map(first),check:checked?[checked]:[]};\
-     byId('board').className=mustTake?'must':'';\
-     paintBoard(position,{rules,near:near(),letters:chosen('letters'),marks});\
+     byId('board').className=mustTake?'must':'';byId('play').classList.toggle('study',!!study);\
+     paintBoard(position,{rules,near:near(),own:mover(),letters:chosen('letters'),marks});\
      drawRoutes(trial&&rules.squares(trial).length>2?[rules.squares(trial)]:[],0);\
      const now={game:game.game,count:plies()+!!trial};\
      if(now.game===seen.game&&now.count-seen.count===1)slide(first(last),target(last));\
-     const undone=game.moves[now.count];\
+     const undone=!study&&game.moves[now.count];\
      if(now.game===seen.game&&seen.count-now.count===1&&undone&&!trial)slide(target(undone),first(undone\
      ));seen=now}function paintPlayer(id,side){const name=players()[side];\
      const dot=make('span',{className:`dot side${side}`,ariaHidden:true});fill(`${id}\
@@ -1152,7 +1179,9 @@ pub fn page_4() -> &'static str
      const words=clockFace(timeOf(side));if(face.textContent!==words)face.textContent=words;\
      const isLow=clock.turn===players()[side]&&timeOf(side)<DAY;\
      face.className=`clock${isLow ? ' low' : ''}`}}function state(){const at=plies();\
-     const move=at&&text('moved',{name:players()[(at+1)%2],move:spell(at-1)});\
+     if(study)return[make('b',{}\
+     ,text('analysis')),` ${[...study.words, study.end && text(study.end)].filter(Boolean).join(text('co\
+     mma'))}`];const move=at&&text('moved',{name:players()[(at+1)%2],move:spell(at-1)});\
      if(ply!==null)return[move||text('atStart')];\
      if(game.end){const isMate=!!rules.checked?.(positions[at],at%2);return[make('b',{}\
      ,ending({...game,isMate},reader)),...(move?[` ${move}`]:[])]}\
@@ -1161,8 +1190,9 @@ pub fn page_4() -> &'static str
      const until=clock.deadline===null?'':isOverdue()?text(isMyTurn()?'overMine':own()<0?'overOther':'ov\
      erTheirs'):text('until',{moment:moment(clock.deadline),left:text('left',{span:span(clock.deadline-c\
      lock.moment)})});return[make('b',{},turn),` ${until}`,...(move?[make('span',{className:'faint'}\
-     ,` ${move}`)]:[])]}function hint(){const trial=waiting&&tried();\
-     if(trial)return text('confirmHint',{move:spell(game.ply,trial)});if(sent)return text('sending');\
+     ,` ${move}`)]:[])]}function hint(){if(study)return text('analysisHint');\
+     const trial=waiting&&tried();if(trial)return text('confirmHint',{move:spell(game.ply,trial)});\
+     if(sent)return text('sending');\
      if(game.offer&&!game.end)return text(game.offer===reader?'yourOffer':'offers',{name:game.offer});\
      if(!playable()[0])return ply===null?'':text('earlier');\
      if(legal[0].includes('x'))return text('mustTake');\
@@ -1171,56 +1201,70 @@ pub fn page_4() -> &'static str
      {if(await choose(text('sure',{what:text(name)}),[text(name)],undefined,`main ${looks}\
      `)===0)perform(()=>ask(path,{}))},path,looks)}function actions(){const next=game.ply+1;\
      const found=[];const may=(name,end,looks)=>found.push(action(name,`games/${game.game}/${end}\
-     `,looks));if(game.end||own()<0)return found;\
+     `,looks));if(game.end||own()<0||study)return found;\
      if(game.offer&&game.offer!==reader)may('accept',`draw/${next}/accept`,'main');\
      if(!isMyTurn()&&isOverdue())may('claim','claim-time','main');\
      if(isMyTurn()&&rules.hasEntered?.(positions[game.ply],own()))may('declare',`declare/${next}`);\
      if(rules===draughts&&!game.offer)may('offer',`draw/${next}/offer`);may('resign','resign','danger');\
      if(!isMyTurn())Object.assign(found.at(-1),{disabled:true,title:text('resignWhen')});return found}\
      function paintMoves(){const list=byId('moves');const step=(at)=>{const made=button(written[at],()=>\
-     stepTo(at+1),String(at+1));if(written[at]!==game.moves[at])made.title=game.moves[at];\
-     return make('li',{value:at+1},made)};\
+     (study?explore(at+1):stepTo(at+1)),String(at+1));\
+     if(written[at]!==game.moves[at])made.title=game.moves[at];return make('li',{value:at+1},made)};\
      list.className=rules===draughts?'pairs':isJapanese()?'plies wide-signs':'plies';\
      const old=list.querySelector('[aria-current]');old?.removeAttribute('aria-current');\
      fill('moves',...game.moves.map((_,at)=>step(at)));\
-     const current=list.children[plies()-1]?.firstChild;if(current)current.ariaCurrent=true;\
+     const current=list.children[(study?.at??plies())-1]?.firstChild;\
+     if(current)current.ariaCurrent=true;\
      if(current!==old||!current)list.scrollTop=current?current.offsetTop-list.clientHeight/2:0}\
      function paintSteps(){const made=Object.entries(BUTTONS).map(([name,by])=>\
-     {const step=button(icon(name),()=>stepTo(plies()+by),name);const at=by<0?plies()>0:ply!==null;\
+     {const step=button(icon(name),()=>stepTo(plies()+by),name);const at=by<0?plies()>\
+     0:study?!study.moves[0]&&study.at<game.ply:ply!==null;\
      return Object.assign(step,{ariaLabel:text(name),title:text(name),ariaDisabled:!at})});\
      const flip=button(icon('flip'),turnBoard,'flip');\
      fill('steps',...made,Object.assign(flip,{ariaLabel:text('flip'),title:text('flip'),ariaPressed:isFl\
      ipped}))}function paint(){paintPosition();paintPlayer('far',1-near());paintPlayer('near',near());\
      tick();written=game.moves.map((_,at)=>spell(at));fill('title',`${text('game')} ${game.game}\
      ${text('comma')}`,make('a',{href:`#event/${game.event}`},game.event));fill('state',...state());\
-     fill('hint',hint());const isWaiting=!!(waiting&&tried());byId('confirm').hidden=!isWaiting;\
+     fill('hint',hint());const isWaiting=!!(waiting&&tried());byId('confirm').hidden=!isWaiting&&!study;\
      byId('confirm').dataset.move=isWaiting?spell(game.ply,waiting):'';\
-     fill('confirm',...(isWaiting?[button(text('confirm'),()=>\
+     fill('confirm',...(study?[button(text('backToGame'),()=>\
+     explore(null),'leave','main'),button(text('undo'),()=>\
+     stepTo(plies()-1),'undo')]:isWaiting?[button(text('confirm'),()=>\
      send(waiting),'confirm','main'),button(text('takeBack'),()=>takeBack(),'back')]:[]));\
      const found=actions();const isUrgent=(it)=>it.className==='main';\
      fill('urgent',...found.filter(isUrgent));fill('actions',...found.filter((it)=>!isUrgent(it)));\
-     const{next,count}=nextGame(game.game);const isFree=next&&!isMyTurn();\
+     const{next,count}=nextGame(game.game);const isFree=next&&!isMyTurn()&&!study;\
      fill('next',...(isFree?[make('a',{href:`#game/${next.game}`,className:'button'}\
      ,text('nextGame',{count}))]:[]));paintSteps();paintMoves();const words=make('span',{}\
-     ,icon('record'),` ${text('record')}`);fill('tools',Object.assign(button(words,()=>\
-     perform(download),'record'),{id:'record'}));tellUnsent()}\
-     function lay(){layBoard(rules,near(),own());seen={};paint()}\
+     ,icon('record'),` ${text('record')}`);const opener=Object.assign(button(text('analyse'),()=>\
+     explore(plies()),'analyse'),{id:'analyse',hidden:!!study});\
+     fill('tools',opener,Object.assign(button(words,()=>perform(download),'record'),{id:'record'}));\
+     tellUnsent()}function lay(){layBoard(rules,near());seen={};paint()}\
      function turnBoard(){isFlipped=!isFlipped;lay()}\
-     function stepTo(count){ply=count<game.ply?Math.max(count,0):null;touched=waiting=null;paint()}\
+     async function explore(at,moves=[],words=[]){touched=waiting=null;explored+=1;const{game:id}=game;\
+     const count=explored;if(at===null)study=null;else{const body={game:id,ply:at,moves};\
+     const reply=await answerOf(()=>ask(`analysis/${rules === shogi ? 'shogi' : 'draughts'}`,body));\
+     if(!reply||count!==explored||game?.game!==id)return;\
+     study={...reply,at,words,position:rules.read(reply.position)}}paint()}\
+     function stepTo(count){if(study){const{at,moves,words}=study;\
+     const to=Math.min(Math.max(count,0),moves[0]?plies():game.ply);if(to===plies())return;\
+     explore(Math.min(to,moves[0]?at:to),moves.slice(0,Math.max(to-at,0)),words.slice(0,Math.max(to-at,0\
+     )));return}ply=count<game.ply?Math.max(count,0):null;touched=waiting=null;paint()}\
      function takeBack(){const from=waiting&&first(waiting);waiting=touched=null;paint();focusOn(from)}\
      async function send(move){const to=target(move);\
      const it={game:game.game,ply:game.ply+1,move,as:spell(game.ply,move)};sent=move;\
      waiting=touched=null;paint();focusOn(to);if(!await deliver(it)){sent=null;\
      if(game?.game===it.game)paint()}await lookAgain()}\
-     async function chooseMove(moves){const kind=rules.kind(positions[game.ply].board[first(moves[0])]);\
-     const piece=(it)=>make('span',{},picture(it,own(),false,chosen('letters')),kindName(it));\
-     const options=moves.map((it)=>(rules===shogi?piece((it[4]??'')+kind):it));\
-     const taken=await choose(text('which'),options,(at)=>\
+     async function chooseMove(moves){const board=(study?.position??positions[game.ply]).board;\
+     const kind=rules.kind(board[first(moves[0])]);const piece=(it)=>make('span',{}\
+     ,picture(it,mover(),false,chosen('letters')),kindName(it));const options=moves.map((it)=>\
+     (rules===shogi?piece((it[4]??'')+kind):it));const taken=await choose(text('which'),options,(at)=>\
      rules===draughts&&drawRoutes(moves.map(rules.squares),at));drawRoutes([]);return taken}\
      function lift(square){touched=square;paintPosition()}\
      async function go(from,to){const moves=movesOf(from,to).reverse();const move=moves[moves.length>\
      1?await chooseMove(moves):0];if(!playable().includes(move))return lift(null);\
-     if(!chosen('confirm'))return send(move);waiting=move;touched=null;paint();\
+     if(study)return explore(study.at,[...study.moves,move],[...study.words,spellTried(move)]).then(()=>\
+     focusOn(to));if(!chosen('confirm'))return send(move);waiting=move;touched=null;paint();\
      return byId('confirm').firstChild?.focus({preventScroll:true})}\
      function touch(square){if(waiting){const isOwnOther=![first(waiting),target(waiting)].includes(squa\
      re);takeBack();if(!isOwnOther)return}if(movesOf(touched,square)[0]){go(touched,square);return}\
@@ -1232,19 +1276,20 @@ pub fn page_4() -> &'static str
      /record`)).blob());make('a',{href,download:`${game.event}-${game.game}\
      .${rules === shogi ? 'csa' : 'pdn'}`}).click()}\
      function take(now,kind){const isOther=game?.game!==now.game;\
-     if(isOther||now.ply!==game.ply||now.end)touched=waiting=sent=null;game=now;settle(now);\
-     rules=kind==='shogi'?shogi:draughts;positions=[rules.read(rules.opening)];\
+     if(isOther||now.ply!==game.ply||now.end)touched=waiting=sent=null;if(isOther)study=null;game=now;\
+     settle(now);rules=kind==='shogi'?shogi:draughts;positions=[rules.read(rules.opening)];\
      now.moves.forEach((move,at)=>positions.push(rules.play(positions[at],move,at%2)));\
      positions[now.ply]=rules.read(now.position);if(!isOther)return;ply=null;isFlipped=false;seen={};\
-     layBoard(rules,near(),own())}async function lookAtGame(id){const now=await ask(`games/${id}/page`);\
+     layBoard(rules,near())}async function lookAtGame(id){const now=await ask(`games/${id}/page`);\
      return(name)=>{reader=name;clock=now.clock;told=Date.now();legal=now.legal;const{next,count}\
      =nextGame(now.game.game);\
      const left=clock.deadline===null||isOverdue()||span(clock.deadline-clock.moment);\
      const replies=JSON.stringify([now.game,now.kind,legal,left,next?.game,count,name,text('code')]);\
      if(replies===paintedGame)return;take(now.game,now.kind);paint();paintedGame=replies}}\
-     const repaintGame=()=>isOpen()&&lay();function leaveGame(){game=null;paintedGame='';\
-     byId('dialog').close()}function startGame(){startBoard({touched:touch,lifted:lift,dropped:go});\
-     setInterval(tick,1000);document.onkeydown=({key,target:on,ctrlKey,altKey,metaKey})=>\
+     const repaintGame=()=>isOpen()&&lay();function leaveGame(){game=study=null;explored+=1;\
+     paintedGame='';byId('dialog').close()}\
+     function startGame(){startBoard({touched:touch,lifted:lift,dropped:go});setInterval(tick,1000);\
+     document.onkeydown=({key,target:on,ctrlKey,altKey,metaKey})=>\
      {if(!isOpen()||ctrlKey||altKey||metaKey||on.closest('select, input, dialog'))return;\
      if(key==='f')turnBoard();if(key==='Escape'){if(waiting)takeBack();else lift(null)}\
      if(on.closest('[role=grid], #standings'))return;\
@@ -1309,7 +1354,7 @@ pub fn page_4() -> &'static str
 pub fn policy() -> &'static str
     ensures { result.now ≡ policy }
 {
-    "default-src 'none'; style-src 'sha256-5tpAp8X0/GF1op9K1QPJpxFYsNnUM4YvYJr2fAFpY20='; \
-     script-src 'sha256-LTpSjr+hv0/+qfaNTR/woTm7aJvtBJbntwTprfbfQ5g='; connect-src 'self'; \
+    "default-src 'none'; style-src 'sha256-LBekJrt0n0to7MaKjFLKEUJ5Fgk4COnJ3p36HkTHEzU='; \
+     script-src 'sha256-mxMRBitRh1NJTX2bY4mEc7EDBkzdhKO1hUJEmXos5Ug='; connect-src 'self'; \
      img-src data:; manifest-src data:; base-uri 'none'; form-action 'none'; frame-ancestors 'none'"
 }

@@ -7,6 +7,7 @@ use Rattle.club_orders.specs.declared.report.Report.TheVariants.{Ready, Sound, A
 use Rattle.club_orders.specs.declared.report.Report.TheVariants.{Unopened, StoreFailed, InUse, NotOpened, NoClock, InputFailed}
 use Rattle.club_orders.specs.declared.report.Report.TheVariants.{Listening, PortUnavailable, NoMemory, Upgraded}
 use Rattle.club_orders.specs.declared.report.Report.TheVariants.{AlreadyUpgraded, Batched, Copied, BackupFailed}
+use Rattle.club_orders.specs.declared.report.Report.TheVariants.{Unread, ValueRefused}
 use Rattle.club_orders.specs.Batches.{batch_status, is_refused, status_of}
 use Rattle.club_orders.specs.declared.batched.BatchResults as batch_report
 use Rattle.club_orders.specs.Report.{outcome_status, report_status}
@@ -39,6 +40,8 @@ status_small (Unopened fault) = omega (arith)
 status_small (StoreFailed fault) = omega (arith)
 status_small InUse = omega (arith)
 status_small (NotOpened cause) = omega (arith)
+status_small (Unread unread) = omega (arith)
+status_small (ValueRefused value) = omega (arith)
 status_small NoClock = omega (arith)
 status_small InputFailed = omega (arith)
 status_small (Listening port) = omega (arith)

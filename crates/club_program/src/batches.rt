@@ -11,8 +11,8 @@ use clocks::Moment;
 use club_batches::{
     BatchLine, SeatError, batch_for, push_order, read_orders, seat_lines, seats_of,
 };
-use club_orders::{DONE, FAULT, Report};
-use club_requests::Outcome;
+use club_orders::{DONE, FAULT, REFUSED, Report, WrongValue};
+use club_requests::{Outcome, Refusal, is_name};
 use server::clock;
 use std::alloc::AllocError;
 
@@ -21,6 +21,8 @@ use std::alloc::AllocError;
 enum Unbegun {
     // A line is no command.
     Words(BadWords),
+    // The text of the orders cannot be read.
+    Orders(Report),
     // Another reason.
     Report(Report),
 }
@@ -103,7 +105,10 @@ fn order_for(file: String, moment: Moment, batch: Batch, explains: bool) -> Orde
 
 fn prepared_batch(rt: &HostRuntime, words: BatchOptions) -> Result<PreparedBatch, Unbegun> {
     let moment = moment_for(rt, words.now)?;
-    let text = read_batch(rt, words.orders.as_str())?;
+    let text = match read_batch(rt, words.orders.as_str()) {
+        Ok(text) => text,
+        Err(report) => return Err(Unbegun::Orders(report)),
+    };
     let text = without_mark(text.as_slice());
     let mut lines = Vec::new(rt.alloc());
     lines.extend_from_slice(text)?;
@@ -116,11 +121,62 @@ fn prepared_batch(rt: &HostRuntime, words: BatchOptions) -> Result<PreparedBatch
     })
 }
 
+// Whether a name stands among the first `count` names.
+fn stands_before(names: &[String], count: usize, name: &str) -> bool {
+    for other in names.iter().take(count) {
+        if other.as_str() == name {
+            return true;
+        }
+    }
+    false
+}
+
+// Whether a name stands twice.
+fn has_twice(names: &[String]) -> bool {
+    for (place, name) in names.iter().enumerate() {
+        if stands_before(names, place, name.as_str()) {
+            return true;
+        }
+    }
+    false
+}
+
+// The value for which a round robin is refused with 65 before its file is opened.
+fn wrong_value(robin: &RoundRobin) -> WrongValue {
+    let names = robin.names.as_slice();
+    if has_twice(names) {
+        return WrongValue::NameTwice;
+    }
+    if names.iter().all(|name| is_name(name.as_str())) {
+        WrongValue::KeyPrefix
+    } else {
+        WrongValue::SeatedName
+    }
+}
+
+fn is_bad_value(error: &SeatError) -> bool {
+    match error {
+        SeatError::Refused(refusal) => *refusal == Refusal::BadValue,
+        SeatError::Memory => false,
+    }
+}
+
+// Why a round robin was not seated. A value that is refused is named.
+fn unseated(error: SeatError, robin: &RoundRobin) -> Unbegun {
+    if is_bad_value(&error) {
+        Unbegun::Report(Report::ValueRefused(wrong_value(robin)))
+    } else {
+        error.into()
+    }
+}
+
 // The batch that seats a round robin.
 fn seats_at(rt: &HostRuntime, robin: &RoundRobin) -> Result<(Moment, Batch), Unbegun> {
     let moment = moment_for(rt, robin.now)?;
-    let batch = seats_of(rt.alloc(), robin, moment)?;
-    Ok((moment, batch))
+    match seats_of(rt.alloc(), robin, moment) {
+        Ok(batch) => Ok((moment, batch)),
+        Err(error) => Err(unseated(error, robin)),
+    }
 }
 
 // Prints why a batch was not started.
@@ -129,6 +185,10 @@ fn print_unbegun(rt: &HostRuntime, unbegun: Unbegun, explains: bool) -> u8
 {
     match unbegun {
         Unbegun::Words(bad) => refuse_words(rt, bad),
+        Unbegun::Orders(report) => {
+            let batch = batch_for(rt.alloc(), Vec::new(rt.alloc()));
+            print_report(rt, &Task::Batch(batch), &report, explains)
+        }
         Unbegun::Report(report) => print_report(rt, &Task::Verify, &report, explains),
     }
 }
@@ -220,7 +280,10 @@ fn print_unseated(rt: &HostRuntime, robin: RoundRobin, unbegun: Unbegun) -> u8
     ensures { result ≤ 3 }
 {
     let explains = robin.explains;
-    let is_refusal = matches!(unbegun, Unbegun::Report(Report::Answered(_)));
+    let is_refusal = match &unbegun {
+        Unbegun::Report(report) => report.status() == REFUSED,
+        _ => false,
+    };
     if !is_refusal || robin.is_dry {
         return print_unbegun(rt, unbegun, explains);
     }

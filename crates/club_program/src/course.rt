@@ -6,7 +6,7 @@ ghost use Rattle.club_orders.specs.declared.report.Report.TheVariants.{InUse, Un
 ghost use Rattle.club_program.specs.declared.course.AfterSession.TheVariants.{GoesOn, WaitsForFile, Unavailable};
 ghost use Rattle.http_desk.specs.declared.faults.ClubFault.{ClubFault};
 ghost use Rattle.http_desk.specs.declared.faults.ClubFault.TheVariants.{Foreign, Schema, Damaged, Store, Reopen};
-ghost use Rattle.http_desk.specs.declared.faults.ClubFault.TheVariants.{Memory};
+ghost use Rattle.http_desk.specs.declared.faults.ClubFault.TheVariants.{Memory, Leased, Clock};
 ghost use Rattle.club_check.specs.declared.fault.OpenFault.{OpenFault};
 
 use club_orders::Report;
@@ -55,11 +55,12 @@ pub(crate) fn after_session(done: Result<Option<ClubFault>, Report>) -> AfterSes
 ///
 /// # Guarantees
 ///
-/// - `content`: what is wrong with the content of the file lasts.
-/// - `passing`: a failed call may succeed later, and so may an allocation.
+/// - `content`: a fault of the content of the file lasts.
+/// - `passing`: a failed call may succeed later, and so may an allocation; a lease ends, and a clock can be set.
 pub(crate) fn is_permanent(fault: ClubFault) -> bool
     ensures content { (fault ≡ Foreign) ⊎ (fault ≡ Schema) ⊎ (fault ≡ Damaged) → result ≡ true }
-    ensures passing { (fault ≡ Store) ⊎ (fault ≡ Reopen) ⊎ (fault ≡ Memory) → result ≡ false }
+    ensures passing { (fault ≡ Store) ⊎ (fault ≡ Reopen) ⊎ (fault ≡ Memory) ⊎ (fault ≡ Leased) ⊎ (fault ≡ Clock) →
+        result ≡ false }
 {
     match fault {
         ClubFault::Foreign => true,
@@ -68,5 +69,7 @@ pub(crate) fn is_permanent(fault: ClubFault) -> bool
         ClubFault::Store => false,
         ClubFault::Reopen => false,
         ClubFault::Memory => false,
+        ClubFault::Leased => false,
+        ClubFault::Clock => false,
     }
 }

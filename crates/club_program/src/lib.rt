@@ -7,8 +7,8 @@
 //!   command over the file reports agree: the same text, stream and status. What is printed is tested.
 //! - `after_session` (`again`, `told`, `waits`, `foreign`, `failed`): after a serving session, and after a failed call,
 //!   the club is opened again. A file that another program holds is waited for. Else requests get the fault.
-//! - `parse_words` (`ok`, `err`): what is parsed are the words, with the file in place of a `--` and the word behind
-//!   it.
+//! - `plain_words`, `parse_words` (`ok`, `err`): what is parsed, and sent to a running server, are the words with the
+//!   file in place of a `--` and the word behind it.
 //! - `run`, `read_bytes`: the exit status is 0 to 3. One byte more than a record's limit is read, so that a longer one
 //!   is noticed.
 #![tactic(auto)]
@@ -26,12 +26,18 @@ mod service;
 mod words;
 
 use batches::{run_batch, run_round_robin};
-use cli::Invocation;
+use cli::{BadWords, Invocation};
 pub use on_server::is_printed_alike;
 use orders::run_with_record;
 use printing::refuse_words;
 use service::run_service;
-use words::{given_words, parse_words};
+use words::{given_words, parse_words, plain_words};
+
+// The words of the command line to parse.
+fn words_to_parse(rt: &HostRuntime) -> Result<Vec<String>, BadWords> {
+    let words = given_words(rt)?;
+    Ok(plain_words(rt, words.as_slice())?)
+}
 
 /// Parses the command line, executes it, prints the result, and returns the exit status.
 ///
@@ -39,7 +45,7 @@ use words::{given_words, parse_words};
 pub fn run(rt: &HostRuntime) -> u8
     ensures { result ≤ 3 }
 {
-    let words = match given_words(rt) {
+    let words = match words_to_parse(rt) {
         Ok(words) => words,
         Err(bad) => return refuse_words(rt, bad),
     };

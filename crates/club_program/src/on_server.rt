@@ -10,7 +10,7 @@ ghost use Rattle.control_socket.specs.Printed.{printed, shown_printed};
 
 use crate::printing::print_report;
 use cli::{Order, Task};
-use club_orders::Report;
+use club_orders::{REFUSED, Report};
 use club_requests::Command;
 use control_socket::{OrderAnswer, print_answered};
 use server::clock;
@@ -31,7 +31,9 @@ fn print_server_answer(rt: &HostRuntime, order: &Order, answered: &OrderAnswer) 
 {
     match print_answered(answered, &mut rt.stdout(), &mut rt.stderr()) {
         Some(status) => status,
-        None => print_report(rt, &order.task, &Report::OutputFailed, false),
+        None if answered.is_done => print_report(rt, &order.task, &Report::OutputFailed, false),
+        // A refusal keeps its status, even if it cannot be printed.
+        None => REFUSED,
     }
 }
 

@@ -7,13 +7,14 @@ use crate::printing::{line_room, print_in, print_report, print_without_room};
 use crate::records::record_in;
 use cli::{Order, Task};
 use club_orders::Report;
-use club_session::{back_up, discard_files, execute_order, open_files};
+use club_session::{back_up, execute_order, has_log, open_files, release_files};
 use control_socket::request_lease;
 use server::clock;
 use sqlite_disk::Wary;
 
 fn backed_up(rt: &HostRuntime, file: &str, copy: &str) -> Report {
-    discard_files(back_up(rt, file, copy, Wary, Wary)).into_report()
+    let had_log = has_log(rt, file);
+    release_files(rt, file, had_log, back_up(rt, file, copy, Wary, Wary)).into_report(rt, copy)
 }
 
 // Executes a command at the timestamp of the command line or of the system clock.
@@ -22,8 +23,15 @@ fn run_on_file(rt: &HostRuntime, order: &Order) -> Report {
         Some(moment) => moment,
         None => return Report::NoClock,
     };
+    let file = order.file.as_str();
+    let had_log = has_log(rt, file);
     let opened = open_files(rt, order, Wary);
-    discard_files(execute_order(rt.alloc(), opened, &order.task, moment, &mut rt.stdout()))
+    release_files(
+        rt,
+        file,
+        had_log,
+        execute_order(rt.alloc(), opened, &order.task, moment, &mut rt.stdout()),
+    )
 }
 
 /// Executes a command over the file; a server that holds it releases it meanwhile.

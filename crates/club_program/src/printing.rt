@@ -3,7 +3,10 @@
 ghost use Rattle.std.specs.Prelude.{◌≡◌, ◌≤◌, [], IfOk, string_bytes};
 
 use cli::{BadWords, Task};
-use club_orders::{BAD_WORDS, DONE, Report, TaskReport, print_batch, print_explained};
+use club_orders::{
+    BAD_WORDS, BatchReport, DONE, Report, TaskReport, print_batch_explained, print_explained,
+};
+use club_requests::Request;
 use std::alloc::AllocError;
 use std::io::Write;
 
@@ -35,7 +38,15 @@ pub(crate) fn print_without_room(rt: &HostRuntime, task: &Task, explains: bool) 
     print_explained(line, &given, &mut rt.stdout(), &mut rt.stderr())
 }
 
-/// Prints a report into an allocated line, with an explanation if wanted; batches have none.
+// The requests of a batch; none of any other task.
+fn requests_of(task: &Task) -> &[Request] {
+    match task {
+        Task::Batch(batch) => batch.requests.as_slice(),
+        _ => &[],
+    }
+}
+
+/// Prints a report into an allocated line, with an explanation if wanted: of a batch, for each refused order.
 #[tactic(auto, using(crate::proofs::StatusLemmas::printed_small, crate::proofs::StatusLemmas::batch_printed_small))]
 pub(crate) fn print_in(
     rt: &HostRuntime,
@@ -48,7 +59,14 @@ pub(crate) fn print_in(
     ensures { result ≤ 3 }
 {
     match report {
-        Report::Batched(batched) => print_batch(line, batched, &mut rt.stdout(), &mut rt.stderr()),
+        Report::Batched(batched) => {
+            let given = BatchReport {
+                requests: requests_of(task),
+                batched,
+                explains,
+            };
+            print_batch_explained(rt.alloc(), line, &given, &mut rt.stdout(), &mut rt.stderr())
+        }
         _ => {
             let given = TaskReport {
                 task,

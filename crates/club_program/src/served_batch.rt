@@ -1,7 +1,7 @@
 //! Execution of a batch by the running server that holds the file, command by command, so that members are served
 //! between.
 
-ghost use Rattle.std.specs.Prelude.{◌≤◌};
+ghost use Rattle.std.specs.Prelude.{◌≡◌, ◌≢◌, ◌≤◌, false, true};
 
 use crate::printing::print_report;
 use cli::{Batch, Task};
@@ -29,7 +29,8 @@ pub(crate) struct PreparedBatch {
 pub(crate) enum SentBatch {
     /// The output failed, or a query was refused: the program ends with this status.
     Ended(u8),
-    /// So many commands were answered, and whether one of them was refused. The next one took effect once or not at all.
+    /// So many commands were answered, and whether one of them was refused. The next one took effect once or not at
+    /// all.
     Answered(usize, bool),
 }
 
@@ -132,7 +133,10 @@ pub(crate) fn send_batch(rt: &HostRuntime, given: &PreparedBatch) -> SentBatch {
 /// The exit status of a batch whose first commands the server answered, and whose others ended with a status.
 pub(crate) fn status_with(has_refusal: bool, rest: u8) -> u8
     requires { rest ≤ 3 }
-    ensures { result ≤ 3 }
+    ensures status { result ≤ 3 }
+    ensures refused { rest ≡ 0 → has_refusal ≡ true → result ≡ 1 }
+    ensures done { rest ≡ 0 → has_refusal ≡ false → result ≡ 0 }
+    ensures failed { rest ≢ 0 → result ≡ rest }
 {
     if rest == DONE && has_refusal {
         REFUSED

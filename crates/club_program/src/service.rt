@@ -115,16 +115,29 @@ fn print_service_report(rt: &HostRuntime, service: &ServeOptions, report: &Repor
     print_report(rt, &Task::Verify, report, service.explains)
 }
 
+// The options of the server.
+fn options_of(rt: &HostRuntime, service: &ServeOptions) -> Result<ServerOptions, AllocError> {
+    let mut hosts = Vec::new(rt.alloc());
+    for host in service.hosts.iter() {
+        hosts.push(host.clone()?)?;
+    }
+    Ok(ServerOptions {
+        now: service.now,
+        is_logged: service.log,
+        count: service.count,
+        hosts,
+    })
+}
+
 // Listens on the port, prints that, and serves; returns the exit status.
 fn listen(rt: &HostRuntime, service: &ServeOptions) -> u8
     ensures { result ≤ 3 }
 {
-    let terms = ServerOptions {
-        now: service.now,
-        is_logged: service.log,
-        count: service.count,
+    let options = match options_of(rt, service) {
+        Ok(options) => options,
+        Err(_) => return print_without_room(rt, &Task::Verify, service.explains),
     };
-    let mut callers = match Server::listen(rt, service.port, terms) {
+    let mut callers = match Server::listen(rt, service.port, options) {
         Ok(callers) => callers,
         Err(_) => return print_service_report(rt, service, &Report::PortUnavailable),
     };

@@ -142,23 +142,42 @@ fn path_behind(rt: &HostRuntime, words: &[&str]) -> Result<Option<String>, Alloc
     }
 }
 
-/// Parses the command line. After a `--` the file may start with a hyphen.
+// Copies of the words.
+fn owned(rt: &HostRuntime, words: &[&str]) -> Result<Vec<String>, AllocError>
+    ensures { IfOk result (λ owned. map string_bytes owned.items ≡ map (λ t. t.now) words.now) }
+{
+    let mut owned = Vec::new(rt.alloc());
+    for word in words {
+        owned.push(String::from_str(rt.alloc(), word)?)?;
+    }
+    Ok(owned)
+}
+
+/// The words to parse, and to send to a running server: after a `--` the file may start with a hyphen.
 ///
 /// # Errors
 ///
-/// `BadWords` if it is malformed, asks for help or the version, or if out of memory.
-///
-/// # Guarantees
-///
-/// `ok`, `err`: the result is the one for these words with the file in its place.
-pub(crate) fn parse_words(rt: &HostRuntime, words: &[String]) -> Result<Invocation, BadWords>
-    ensures ok { IfOk result (StatesInvocation (plain_words (map string_bytes words.now))) }
-    ensures err { IfErr result (AreRefused (plain_words (map string_bytes words.now))) }
+/// `AllocError` if out of memory.
+pub(crate) fn plain_words(rt: &HostRuntime, words: &[String]) -> Result<Vec<String>, AllocError>
+    ensures { IfOk result (λ plain. map string_bytes plain.items ≡ plain_words (map string_bytes words.now)) }
 {
     let texts = texts(rt, words)?;
     let words = texts.as_slice();
     let (options, rest) = words.split_at(file_at(words).min(words.len()));
     let path = path_behind(rt, rest)?;
     let taken = with_file(rt, options, rest, &path)?;
-    read_words(rt.alloc(), taken.as_slice())
+    owned(rt, taken.as_slice())
+}
+
+/// Parses the command line.
+///
+/// # Errors
+///
+/// `BadWords` if it is malformed, asks for help or the version, or if out of memory.
+pub(crate) fn parse_words(rt: &HostRuntime, words: &[String]) -> Result<Invocation, BadWords>
+    ensures ok { IfOk result (StatesInvocation (map string_bytes words.now)) }
+    ensures err { IfErr result (AreRefused (map string_bytes words.now)) }
+{
+    let texts = texts(rt, words)?;
+    read_words(rt.alloc(), texts.as_slice())
 }

@@ -1,3 +1,4 @@
+pub mod Analysis
 pub mod AnswerText
 pub mod Limits
 pub mod Outcome

@@ -24,6 +24,10 @@ most_plies = ply_limit
 abbrev pub most_text_bytes : ℕ
 most_text_bytes = 200
 
+-- maximum number of moves that an analysis tries
+abbrev pub most_tried_moves : ℕ
+most_tried_moves = 64
+
 -- maximum number of bytes of a text of records
 abbrev pub most_record_bytes : ℕ
 most_record_bytes = 65536

@@ -1,1 +1,2 @@
+pub mod CommandName
 pub mod OutsideEnd

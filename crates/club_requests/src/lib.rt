@@ -5,6 +5,8 @@
 //! - `Display` for `Outcome`, `Answer`, `Refusal`: an outcome is written as its one line.
 //! - `is_name`, `is_member_key`, `is_challenge_number`, `is_budget`, `is_increment`: values are accepted exactly
 //!   within the club's limits.
+//! - `Command::name`: a command's subcommand; challenges and the commands of members on games, but for moves, have
+//!   none.
 #![tactic(auto)]
 
 pub mod answers;
@@ -16,7 +18,7 @@ pub mod values;
 
 pub use answers::{Answer, MoveAnswer, Outcome};
 pub use outside_end::{OutsideEnd, is_outside};
-pub use questions::{GameFilter, Listing, Question};
+pub use questions::{Analysis, AnalysisStart, GameFilter, Listing, Question};
 pub use refusals::Refusal;
 pub use requests::{
     AddEvent, AddMember, AnswerChallenge, Caller, Command, GameCommand, Import, OnGame,

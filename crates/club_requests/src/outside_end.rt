@@ -98,7 +98,7 @@ const OUTSIDE_ENDS: [OutsideEnd; 5] = [
     OutsideEnd::Recorded(Score::Draw),
 ];
 
-/// Whether an end with this name is outside the rules, so that no move makes it.
+/// Whether the end with this name is one that no move makes.
 pub fn is_outside(name: &str) -> bool
     ensures { result ≡ is_outside name.now }
 {

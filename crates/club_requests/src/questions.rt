@@ -1,5 +1,7 @@
 //! The queries and their parameters.
 
+use club_rules::GameKind;
+
 /// Filter of a list of games.
 #[derive(Clone, Copy, Debug, PartialEq, Eq)]
 pub enum GameFilter {
@@ -20,6 +22,33 @@ pub struct Listing {
     pub member: Option<String>,
     /// Only games in this state.
     pub which: GameFilter,
+}
+
+/// Where the line of an analysis begins.
+#[derive(Debug, Drop)]
+pub enum AnalysisStart {
+    /// The initial position of the game.
+    Opening,
+    /// The position of this text.
+    Position(String),
+    /// A game of the club, after this number of its plies.
+    Game {
+        /// The id of the game.
+        game: u64,
+        /// The number of its plies that are played before the moves to try.
+        ply: u64,
+    },
+}
+
+/// Moves that a member tries from a position, without any effect on a game.
+#[derive(Debug, Drop)]
+pub struct Analysis {
+    /// The game whose rules hold.
+    pub kind: GameKind,
+    /// Where the line begins.
+    pub start: AnalysisStart,
+    /// The texts of the moves to try, in their order.
+    pub moves: Vec<String>,
 }
 
 /// A query to the club.
@@ -45,6 +74,8 @@ pub enum Question {
     ChallengeChoices(String),
     /// The games of the event with this name, as JSON.
     EventGames(String),
+    /// The standings of the event with this name, as JSON.
+    EventStandings(String),
     /// The clock of the game with this id, as JSON.
     GameClock(u64),
     /// The game with this id as members see it, as JSON.
@@ -62,4 +93,6 @@ pub enum Question {
     },
     /// The records of all games of the event with this name, in the format of its kind.
     EventRecords(String),
+    /// The position after moves that are tried, the legal moves there and the end, as JSON.
+    Analysis(Analysis),
 }

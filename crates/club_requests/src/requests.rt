@@ -1,5 +1,8 @@
 //! Requests: a command, its caller and its timestamp.
 
+ghost use Rattle.std.specs.Prelude.{◌≡◌, option_map};
+ghost use Rattle.club_requests.specs.internal.CommandName.{command_name, game_command_name, import_name};
+
 use clocks::Moment;
 use club_rules::{GameKind, RecordFormat};
 
@@ -116,6 +119,45 @@ pub enum Command {
     Challenge(OpenChallenge),
     Withdraw(Withdraw),
     Answer(AnswerChallenge),
+}
+
+// The subcommand that imports a record of this format.
+fn import_name(format: RecordFormat) -> &'static str
+    ensures { result.now ≡ import_name format }
+{
+    match format {
+        RecordFormat::Pdn => "import-pdn",
+        RecordFormat::Csa => "import-csa",
+    }
+}
+
+impl GameCommand {
+    // The subcommand of a command on a game; only moves have one.
+    fn name(&self) -> Option<&'static str>
+        ensures { option_map (λ name. name.now) result ≡ game_command_name self.now }
+    {
+        match self {
+            GameCommand::Move { ply: _, text: _ } => Some("move"),
+            _ => None,
+        }
+    }
+}
+
+impl Command {
+    /// The name of the subcommand that sends this command; `None` if the command line has none.
+    pub fn name(&self) -> Option<&'static str>
+        ensures { option_map (λ name. name.now) result ≡ command_name self.now }
+    {
+        match self {
+            Command::AddMember(_) => Some("member"),
+            Command::AddEvent(_) => Some("event"),
+            Command::Seat(_) => Some("seat"),
+            Command::Import(given) => Some(import_name(given.format)),
+            Command::OnGame(given) => given.command.name(),
+            Command::Sweep => Some("sweep"),
+            Command::Challenge(_) | Command::Withdraw(_) | Command::Answer(_) => None,
+        }
+    }
 }
 
 /// A command with its caller and the timestamp at which it arrived.

@@ -21,6 +21,9 @@ pub const MOST_PLIES: u32 = 600;
 /// The maximum length of a move's text, in bytes.
 pub const MOST_TEXT_BYTES: usize = 200;
 
+/// The maximum number of moves that an analysis tries.
+pub const MOST_TRIED_MOVES: usize = 64;
+
 /// The maximum length of a text of records, in bytes.
 pub const MOST_RECORD_BYTES: usize = 65_536;
 

@@ -159,7 +159,7 @@ fn clock_after<R: Rules>(
 pub(crate) fn end_of<R: Rules>(game: &Replayed<R>) -> Option<R::End>
     requires line { IsPlayedLine R.rules R.rules.start game.now.line.items }
     requires position { game.now.position ≡ position_after R.rules R.rules.start game.now.line.items }
-    requires to_u64 { IsCounted R.rules game.now }
+    requires counts { IsCounted R.rules game.now }
     ensures { result ≡ R.rules.judge R.rules.start game.now.line.items }
 {
     let plies = game.line.len();
@@ -186,7 +186,7 @@ fn next_of<R: Rules>(
     requires plies { length game.now.line.items < 600 }
     requires line { IsPlayedLine R.rules R.rules.start game.now.line.items }
     requires position { game.now.position ≡ position_after R.rules R.rules.start game.now.line.items }
-    requires to_u64 { IsCounted R.rules game.now }
+    requires counts { IsCounted R.rules game.now }
     ensures some { IfOk result (λ found. IfSome found (λ next. IsNext R.rules increment id game.now row.now next.made
         next.moment next.left)) }
     ensures after { IfOk result (λ found. IfSome found (λ next. next.position

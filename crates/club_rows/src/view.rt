@@ -97,7 +97,7 @@ fn row_replayed<R: Rules>(
     requires plies { length game.now.line.items ≤ 600 }
     requires line { IsPlayedLine R.rules R.rules.start game.now.line.items }
     requires position { game.now.position ≡ position_after R.rules R.rules.start game.now.line.items }
-    requires to_u64 { IsCounted R.rules game.now }
+    requires counts { IsCounted R.rules game.now }
     ensures plies { IfOk result (λ row. row.plies ≡ length game.now.line.items) }
     ensures left_first { IfOk result (λ row. row.left_first ≡ game.now.left_first) }
     ensures left_second { IfOk result (λ row. row.left_second ≡ game.now.left_second) }

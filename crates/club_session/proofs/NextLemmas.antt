@@ -1,6 +1,7 @@
 -- What is behind a request: the state before it, or that after a member's command.
 use Rattle.std.proofs.Common.{◌≡◌, ◌⊎◌, ◌≤◌, ℕ, List, Option, Some, None, Bool, true, false, refl, inl, inr}
 use Rattle.std.specs.Prelude.{IfSome, option_map, option_and_then, if◌then◌else◌}
+use Rattle.club_requests.specs.Analysis.{Analysis}
 use Rattle.club_requests.specs.Limits.{last_moment}
 use Rattle.club_core.specs.State.{Command, Request, key_holder, withdraw_challenge, on_game as game_command}
 use Rattle.club_core.specs.Step.{GameCommand}
@@ -10,8 +11,9 @@ use Rattle.http_desk.specs.declared.table.Topic.{Topic}
 use Rattle.http_desk.specs.declared.table.Topic.TheVariants as topic
 use Rattle.http_desk.specs.Routes.{Endpoint, match_route}
 use Rattle.http_desk.specs.Desk.{ExpectedReply, serve, serve_asked, serve_known, serve_topic, serve_command, command_given}
-use Rattle.http_desk.specs.Desk.{next_state}
+use Rattle.http_desk.specs.Desk.{next_state, serve_analysis}
 use Rattle.http_bodies.specs.Bodies.{json_of, challenge_with, challenge_in, challenge_of, answer_with, answer_in}
+use Rattle.http_bodies.specs.Analyses.{analysis_of}
 use Rattle.http_bodies.specs.Bodies.{answer_of}
 use Rattle.club_session.specs.Served.{DeskState, next_of, served}
 use Rattle.club_session.specs.Turns.{IsMembers, IsTurn}
@@ -67,10 +69,15 @@ module _ (s : DeskState) (moment : ℕ) (within : moment ≤ last_moment) where
         refl,
       )
 
+  analysis_next : (analysis : Option Analysis) → IsNext (serve_analysis served s moment analysis).0
+  analysis_next None = inl refl
+  analysis_next (Some analysis) = inl refl
+
   topic_next : (key body : List ℕ) (asked : Endpoint) (about : Topic)
       → IsNext (serve_topic served s moment key body asked about).0
   topic_next key body asked topic.MembersPage = inl refl
   topic_next key body asked (topic.Question about kind) = inl refl
+  topic_next key body asked (topic.Analysis kind) = analysis_next (analysis_of kind body)
   topic_next key body asked (topic.OnGame action) =
       command_next key asked.id _ (turn_members asked.id (command_given action asked.ply body))
   topic_next key body asked topic.Challenge = command_next key asked.number _ (opening_members asked.number body)

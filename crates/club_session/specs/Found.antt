@@ -60,7 +60,8 @@ pub record AreSound (files : Image) : Type 0 where
 abbrev pub HaveClubTables : Image → Type 0
 HaveClubTables files = (found : Trees) → IsFoundIn files found → (schema : Schema) × ListClub schema found
 
--- The schema that an opening found is equivalent to that of a club of this version, whatever `CREATE` statements made it.
+-- The schema that an opening found is equivalent to that of a club of this version, whatever `CREATE` statements made
+-- it.
 pub record AnswerAs (version : Version) (files : Image) : Type 0 where
   pub found : Trees
   pub is_found : IsFoundIn files found
@@ -78,7 +79,8 @@ pub record AreKept (files : Image) (MayLeave : Image → Type 0) : Type 0 where
 -- The database was rejected: if it has a club's tables, the reason is true of them; later openings find the same.
 pub record AreRefused (files : Image) (MayLeave : Image → Type 0) (fault : OpenFault) : Type 0 where
   pub kept : AreKept files MayLeave
-  pub blames : (schema : Schema) → ListClub schema kept.found → IsRightFault Current (database_of schema kept.found) fault
+  pub blames : (schema : Schema) → ListClub schema kept.found
+      → IsRightFault Current (database_of schema kept.found) fault
   pub first : (schema : Schema) → ListClub schema kept.found → NamesFirstDamaged (database_of schema kept.found) fault
 
 -- The same for an upgrade: if a call of the database failed, later openings may find more.

@@ -22,8 +22,8 @@ pub record AsksFor (request : head.HttpRequest) (key : List ℕ) (number : ℕ) 
 abbrev pub stands_at : ClubState → Place
 stands_at s = record { version = Current; state = s }
 
--- The repetition changes nothing and gets the same answer, whatever sessions and schema migrations came between, at
--- any timestamp, beside any foreign tables. For an offer of a draw this holds until the next move.
+-- The repetition changes nothing and gets the same answer, after any sessions and schema migrations, at any
+-- timestamp, beside any foreign tables. For an offer of a draw this holds until the next move.
 abbrev pub AnswersAlike : Type 0
 AnswersAlike =
     (one other : Neighbours) (before after later : ClubState) (moment again : ℕ) (request : head.HttpRequest)

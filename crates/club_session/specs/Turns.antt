@@ -2,8 +2,8 @@
 -- history.
 use Rattle.std.specs.Prelude.{◌≡◌, ◌≤◌, ◌⊎◌, ℕ, true, List, [], ◌∷◌, ⊤}
 use Rattle.club_requests.specs.Limits.{last_moment}
-use Rattle.club_core.specs.State.{Command, add_member, add_event, seat, import_record, on_game, sweep}
-use Rattle.club_core.specs.State.{open_challenge, withdraw_challenge, answer_challenge, Request, key_holder, officer}
+use Rattle.club_core.specs.State.{Command, on_game, open_challenge, withdraw_challenge, answer_challenge, Request}
+use Rattle.club_core.specs.State.{key_holder, officer}
 use Rattle.store.specs.Histories as history
 use Rattle.store.specs.Histories.{HistoryStep}
 
@@ -13,11 +13,7 @@ IsMembers (on_game game command) = ⊤
 IsMembers (open_challenge number event other first) = ⊤
 IsMembers (withdraw_challenge number) = ⊤
 IsMembers (answer_challenge challenger number accept) = ⊤
-IsMembers (add_member name key) = ⊥
-IsMembers (add_event event) = ⊥
-IsMembers (seat key event first second) = ⊥
-IsMembers (import_record given) = ⊥
-IsMembers sweep = ⊥
+IsMembers _ = ⊥
 
 -- such a command by the holder of a key
 pub record IsTurn (request : Request) : Type 0 where

@@ -19,11 +19,11 @@ ghost use Rattle.club_orders.specs.Refused.{IsOlder};
 ghost use Rattle.club_session.specs.Copied.{HasCopyOf, HasCopyOrNone};
 ghost use Rattle.club_session.specs.Found.{AreFilesOf, AreFirstFilesOf, AreKept, AreRefused, AreSound, IsBackedUp};
 
-use crate::opening::{RepeatableStart, open_new, open_with_retries};
+use crate::opening::{RepeatableStart, open_new, open_once, open_with_retries};
 use crate::preflight::{OpenMode, remove_wal};
 use club_orders::{Report, verify};
 use sqlite::{Alter, Connection, FileFrom, FileStore, Leftover};
-use sqlite_disk::{Disk, Start};
+use sqlite_disk::{Disk, Start, Wary};
 use store::{holds_exactly, opened_empty_holds};
 use store_files::close;
 
@@ -34,15 +34,33 @@ pub struct BackupResult<D: Disk> {
 }
 
 impl<D: Disk + Drop> BackupResult<D> {
-    /// Drops the copy and returns the report.
-    pub fn into_report(self) -> Report
+    /// Closes the copy at this path and returns the report. If the copy is not complete, its log is removed as that of
+    /// a club after an order.
+    pub fn into_report(self, rt: &HostRuntime, path: &str) -> Report
         ensures { result ≡ self.report }
     {
         let BackupResult { report, copy } = self;
         if let Some(left) = copy {
-            let _files = left.into_files();
+            drop(left.into_files());
+            release_copy(rt, path, &report);
         }
         report
+    }
+}
+
+// Opens the files of a copy that is not complete again, and closes them without a log, if that can be done.
+fn release_copy(rt: &HostRuntime, path: &str, report: &Report) {
+    if matches!(report, Report::Copied) {
+        return;
+    }
+    if let Ok(copy) = open_once(rt, path, OpenMode::Ordering, Wary) {
+        match copy.close_files() {
+            Ok(files) => {
+                let _removed = remove_wal(rt, path);
+                drop(files);
+            }
+            Err((_, store)) => drop(Leftover::Store(store).into_files()),
+        }
     }
 }
 

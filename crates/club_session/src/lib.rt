@@ -28,6 +28,8 @@
 //! - `execute_order` (`shape`): the tables of an accepted file behave as a club's, whatever statements made them.
 //! - `execute_order` (`refuses`, `older`, `spares`): a refused file is unchanged, and the reason is true. A club of
 //!   schema 1 is refused by its number; `init` leaves other files unchanged.
+//! - `copy_log` (`empty`): the log that `release_files` removes behind a file that had none has no frame, and a crash
+//!   leaves nothing that it could not leave before.
 //! - `execute_order` (`carries`, `repeats`, `withheld`): `upgrade` makes schema 1 schema 2 with the same state, or
 //!   leaves one of the two. It changes nothing in schema 2, or in a file that it refuses.
 //!
@@ -37,7 +39,7 @@
 //! request of a member and each order of the officer.
 //!
 //! - `serve_files` (`history`, `whole`): the history and some commands, each a session of its own, lead to whatever
-//!   the next opening finds. Without a fault none of them was cut off.
+//!   the next opening finds. Without a fault each of them took effect whole.
 //! - `serve_files` (`acknowledged`): whatever a crash leaves, the next opening finds a state to which the served items
 //!   lead, in order. An item with a reply has its effect; one without has it or not.
 //! - `serve_files` (`answered`): after a session without a fault this is one state, whatever a crash leaves.
@@ -68,15 +70,19 @@ pub mod laws;
 mod opening;
 mod order;
 mod preflight;
+mod releasing;
 mod serving;
 mod serving_session;
 mod shown;
+mod unread;
 
 ghost use Rattle.std.specs.Prelude.{◌≡◌};
 
 pub use copying::{BackupResult, back_up};
 pub use opening::RepeatableStart;
 pub use order::{execute_order, open_files};
+pub use preflight::has_log;
+pub use releasing::release_files;
 pub use serving_session::serve_files;
 use sqlite::{FileFrom, FileStore};
 use sqlite_disk::Start;

@@ -13,6 +13,7 @@ ghost use Rattle.club_session.specs.declared.preflight.OpenMode.TheVariants.{Mak
 
 use crate::cache_size::cache_pages;
 use crate::preflight::{OpenMode, fault_of, make_new, prepare};
+use crate::unread::unopened_report;
 use club_orders::{FileFault, Report};
 use sqlite::{Connection, FileFrom, FileStore, Options};
 use sqlite_disk::{Start, Wary};
@@ -91,8 +92,8 @@ fn opening_fault(error: &OpenError) -> FileFault {
     }
 }
 
-// Opens the files, unless another program has locked them.
-fn open_once<S: Start>(
+/// Opens the files, unless another program has locked them.
+pub(crate) fn open_once<S: Start>(
     rt: &HostRuntime,
     file: &str,
     purpose: OpenMode,
@@ -117,7 +118,7 @@ fn open_once<S: Start>(
             conn.set_clock(rt);
             Ok(conn)
         }
-        Err(_) => Err(Report::NotOpened(FileFault::Failed)),
+        Err((error, left)) => Err(unopened_report(rt, file, &error, left)),
     }
 }
 
@@ -132,9 +133,10 @@ fn names_no_file(file: &str) -> bool {
 /// # Errors
 ///
 /// - `Report::InUse`: another program has locked the file.
-/// - `Report::Unopened(OpenFault::Foreign)`: there is no club; never if one is to be created. No file was
+/// - `Report::Unopened(OpenFault::Foreign)`: there is no club. The creation of a club never reports it, and no file is
 ///   changed.
-/// - `Report::NotOpened`: the path names no database file, its log may not be trusted, or opening failed.
+/// - `Report::NotOpened`, `Report::Unread`: the path names no database file, it has a feature or an object that is not
+///   read, its log may not be trusted, or opening failed.
 pub(crate) fn open_with_retries<S: RepeatableStart>(
     rt: &HostRuntime,
     file: &str,

@@ -56,9 +56,10 @@ fn purpose_of(task: &Task) -> OpenMode
 /// # Errors
 ///
 /// - `Report::InUse`: another program has locked the file.
-/// - `Report::Unopened(OpenFault::Foreign)`: there is no club; never if one is to be created. No file was
+/// - `Report::Unopened(OpenFault::Foreign)`: there is no club. The creation of a club never reports it, and no file is
 ///   changed.
-/// - `Report::NotOpened`: the path names no database file, its log may not be trusted, or opening failed.
+/// - `Report::NotOpened`, `Report::Unread`: the path names no database file, it has a feature or an object that is not
+///   read, its log may not be trusted, or opening failed.
 pub fn open_files<S: RepeatableStart>(
     rt: &HostRuntime,
     order: &Order,
@@ -76,8 +77,9 @@ pub fn open_files<S: RepeatableStart>(
     }
 }
 
-/// Executes a task over files that were just opened: checks, executes, closes. It can open no files itself. A backup is
-/// only verified here; `back_up` makes it. Returns the report, and the store if the files were opened.
+/// Executes a task over files that were just opened: checks, executes, closes. It can open no files itself. For a
+/// backup it only verifies the club; `back_up` makes the copy. Returns the report, and the store if the files were
+/// opened.
 ///
 /// # Guarantees
 ///

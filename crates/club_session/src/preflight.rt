@@ -8,9 +8,12 @@ ghost use Rattle.club_orders.specs.Report.{IsNotOpened};
 ghost use Rattle.club_session.specs.declared.preflight.OpenMode.TheVariants.{Making};
 
 use club_orders::{FileFault, Report};
-use std::fs::{File, Metadata, OpenOptions, canonicalize, metadata, remove_file, symlink_metadata};
+use std::fs::{
+    File, Metadata, OpenOptions, Permissions, canonicalize, metadata, remove_file, set_permissions,
+    symlink_metadata,
+};
 use std::io::{Error, ErrorKind, Read};
-use std::os::unix::fs::{MetadataExt, OpenOptionsExt};
+use std::os::unix::fs::{MetadataExt, OpenOptionsExt, PermissionsExt};
 use store::OpenFault;
 
 /// The mode in which files are opened.
@@ -46,6 +49,10 @@ const LEAST_PAGE: u64 = 512;
 
 const LARGEST_PAGE: u64 = 65_536;
 
+// The length of the shortest log with a frame, in bytes: its header, and the header and the page of a frame (section
+// 4.1).
+const SHORTEST_LOG: u64 = 32 + 24 + LEAST_PAGE;
+
 // The page size of a file that is not readable as a database, in bytes: SQLite's default.
 const USUAL_PAGE: u64 = 4_096;
 
@@ -75,6 +82,24 @@ fn make_private(rt: &HostRuntime, file: &str) -> bool {
         .mode(OWNER_ALONE)
         .open(rt, file)
         .is_ok()
+}
+
+// Creates a file with mode 0600, or gives an empty one that mode before anything is written to it.
+fn begin_private(rt: &HostRuntime, file: &str) -> Result<(), Report>
+    ensures { IfErr result IsNotOpened }
+{
+    if make_private(rt, file) {
+        return Ok(());
+    }
+    match set_permissions(rt, file, Permissions::from_mode(OWNER_ALONE)) {
+        Ok(()) => Ok(()),
+        // There is none, and none could be made: the opening reports why.
+        Err(error) if error.kind() == ErrorKind::NotFound => Ok(()),
+        Err(error) if error.kind() == ErrorKind::PermissionDenied => Err(Report::NotOpened(
+            FileFault::NotPrivate,
+        )),
+        Err(error) => Err(Report::NotOpened(fault_of(&error))),
+    }
 }
 
 // Whether the directory of the file exists.
@@ -125,8 +150,7 @@ fn may_write(file: &Metadata, log: &Metadata) -> bool {
         || file.mode() & ALL_WRITE != 0
 }
 
-// Whether a log was made by somebody who may write the file, and nobody may read or write it who may not do so with
-// the file.
+// Whether the log's owner may write the file, and all who may read or write the log may do so with the file.
 fn is_log_of(log: &Metadata, file: &Metadata) -> bool {
     may_write(file, log)
         && log.is_file()
@@ -134,13 +158,20 @@ fn is_log_of(log: &Metadata, file: &Metadata) -> bool {
         && log.mode() & SHARED & !file.mode() == 0
 }
 
-// Whether the log beside a file, if there is one, may be read as the file's own: SQLite takes what stands in a log for
-// the content of the file. The log is beside the file that the path leads to.
+// The path of the write-ahead log of a file. Symbolic links to the file are resolved first.
+fn log_path(rt: &HostRuntime, file: &str) -> Option<String> {
+    let real = canonicalize(rt, file).ok()?;
+    format!(in rt.alloc(); "{}-wal", real.as_str()).ok()
+}
+
+/// Whether a file has a write-ahead log.
+pub fn has_log(rt: &HostRuntime, file: &str) -> bool {
+    log_path(rt, file).is_some_and(|log| symlink_metadata(rt, log.as_str()).is_ok())
+}
+
+// Whether the log of a file, if it has one, is trusted: SQLite reads the log as a part of the file.
 fn is_log_trusted(rt: &HostRuntime, file: &str, found: &Metadata) -> bool {
-    let Ok(real) = canonicalize(rt, file) else {
-        return false;
-    };
-    let Ok(path) = format!(in rt.alloc(); "{}-wal", real.as_str()) else {
+    let Some(path) = log_path(rt, file) else {
         return false;
     };
     match symlink_metadata(rt, path.as_str()) {
@@ -164,8 +195,8 @@ fn is_at_rest(rt: &HostRuntime, file: &str) -> bool {
     !sidecar_exists(rt, file, "-wal") && !sidecar_exists(rt, file, "-journal")
 }
 
-// The first bytes of a file, at most so many; empty if it cannot be read.
-fn beginning_of(rt: &HostRuntime, file: &str, most: u64) -> Vec<u8> {
+/// The first bytes of a file, at most so many; empty if it cannot be read.
+pub(crate) fn beginning_of(rt: &HostRuntime, file: &str, most: u64) -> Vec<u8> {
     let mut bytes = Vec::new(rt.alloc());
     match File::open(rt, file) {
         Ok(opened) => {
@@ -269,12 +300,14 @@ fn look(rt: &HostRuntime, file: &str) -> PathKind {
     }
 }
 
-/// Creates the file, with mode 0600, if a club is to be created and there is none; foreign tables are no obstacle.
+/// Creates the file, with mode 0600, if the command creates a club and there is none; an empty one gets that mode.
+/// Foreign tables are no obstacle.
 ///
 /// # Errors
 ///
-/// - `Report::Unopened(OpenFault::Foreign)`: there is no club, and none is to be created.
-/// - `Report::NotOpened`: not a database file, not accessible, or with a log that may be another user's.
+/// - `Report::Unopened(OpenFault::Foreign)`: there is no club, and the command does not create one.
+/// - `Report::NotOpened`: not a database file, not accessible, an empty one of another user, or with a log that may be
+///   another user's.
 ///
 /// Both leave all files as they were.
 pub(crate) fn prepare(rt: &HostRuntime, file: &str, purpose: OpenMode) -> Result<(), Report>
@@ -287,11 +320,10 @@ pub(crate) fn prepare(rt: &HostRuntime, file: &str, purpose: OpenMode) -> Result
         PathKind::Nothing if purpose == OpenMode::Making && !has_room_for_logs(file) => Err(
             Report::NotOpened(FileFault::LongName),
         ),
-        PathKind::Nothing if purpose == OpenMode::Making => {
-            // If this fails, the opening reports why.
-            let _made = make_private(rt, file);
-            Ok(())
-        }
+        PathKind::Nothing if purpose == OpenMode::Making => match begin_private(rt, file) {
+            Ok(()) => Ok(()),
+            Err(report) => Err(report),
+        },
         PathKind::Foreign if purpose == OpenMode::Making => Ok(()),
         PathKind::Nothing | PathKind::Foreign => Err(Report::Unopened(OpenFault::Foreign)),
     }
@@ -327,8 +359,21 @@ pub(crate) fn make_new(rt: &HostRuntime, file: &str) -> bool {
 
 /// Removes the write-ahead log of a file; returns whether it was removed.
 pub(crate) fn remove_wal(rt: &HostRuntime, file: &str) -> bool {
-    match format!(in rt.alloc(); "{file}-wal") {
-        Ok(log) => remove_file(rt, log.as_str()).is_ok(),
-        Err(_) => false,
+    match log_path(rt, file) {
+        Some(log) => remove_file(rt, log.as_str()).is_ok(),
+        None => false,
+    }
+}
+
+/// Removes the write-ahead log of a file if it is too short for a frame; returns whether it was removed.
+pub(crate) fn remove_empty_log(rt: &HostRuntime, file: &str) -> bool {
+    let Some(log) = log_path(rt, file) else {
+        return false;
+    };
+    match symlink_metadata(rt, log.as_str()) {
+        Ok(found) if found.is_file() && found.len() < SHORTEST_LOG => {
+            remove_file(rt, log.as_str()).is_ok()
+        }
+        _ => false,
     }
 }

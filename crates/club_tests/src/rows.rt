@@ -75,11 +75,11 @@ fn ids_rise(rt: HostRuntime) -> Result<(), Fail> {
 
 // A draughts game after its first move, and one before it, without their keys.
 const MOVED: &str = "1, 1, 2, 1000, 1060, 1, 5, 60, NULL, NULL, NULL, NULL,
-    'B:W28,31,33,34,35,36,37,38,39,40,41,42,43,44,45,46,47,48,49,50:B1,2,3,4,5,6,7,8,9,10,11,12,13,14,15,16,17,18,19,20',
+'B:W28,31,33,34,35,36,37,38,39,40,41,42,43,44,45,46,47,48,49,50:B1,2,3,4,5,6,7,8,9,10,11,12,13,14,15,16,17,18,19,20',
     0, 0";
 
 const OPENING: &str = "1, 1, 2, 1000, 1000, 0, 60, 60, NULL, NULL, NULL, NULL,
-    'W:W31,32,33,34,35,36,37,38,39,40,41,42,43,44,45,46,47,48,49,50:B1,2,3,4,5,6,7,8,9,10,11,12,13,14,15,16,17,18,19,20',
+'W:W31,32,33,34,35,36,37,38,39,40,41,42,43,44,45,46,47,48,49,50:B1,2,3,4,5,6,7,8,9,10,11,12,13,14,15,16,17,18,19,20',
     0, 0";
 
 /// The wrong table of a club with this name of the second member, these event rules, and this key of the second game.

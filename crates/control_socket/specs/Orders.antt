@@ -46,7 +46,8 @@ abbrev pub HasSentAnswer : {S : Type 0} → Club S → (S → Type 0) → S → 
     → Result Bool OrderFault → Type 0
 HasSentAnswer club stands s moment errand before now (Ok done) =
     stands (state_after club s moment errand)
-    × ((text : List ℕ) × IsPrinted club s moment errand (print_of done text) × Appends before now (encode_answer done text))
+    × ((text : List ℕ) × IsPrinted club s moment errand (print_of done text)
+    × Appends before now (encode_answer done text))
 HasSentAnswer club stands s moment errand before now (Err ReplyLost) =
     stands (state_after club s moment errand)
     × ((done : Bool) × (text : List ℕ) × (n : ℕ) × IsPrinted club s moment errand (print_of done text)

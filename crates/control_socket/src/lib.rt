@@ -7,7 +7,7 @@
 //! - `encode_order`, `send_order`, `decode_frame` (`is`, `whole`, `part`), `joined` (`joined`, `parted`): an order is
 //!   decoded as it was encoded: timestamp, words and record. A part of an order is waited for.
 //! - `encode_answer`, `hear_answer`: an answer is decoded as it was encoded, its status and its text.
-//! - `PendingPeer::hear`, `PendingPeer::wish` (`received`): what is added to a message is what was read, in order.
+//! - `PendingPeer::hear`, `PendingPeer::wish` (`received`): a message is exactly the bytes that were read, in order.
 //! - `operation_in`, `parse_request`: only a command or a query is an operation; an order that needs the file for
 //!   itself is none.
 //! - `serve_order` (`obeys`, `tells`): an order is executed once or not at all, and nothing is answered before. The

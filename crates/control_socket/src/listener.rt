@@ -195,8 +195,8 @@ fn listen_at(rt: &HostRuntime, file: &str, socket: &str, path: &str) -> io::Resu
     Ok(listener)
 }
 
-// Listens at the path of the control socket of a file, where nothing stands. Nobody can connect before the socket has
-// its permissions: it is made in a folder that only its owner can enter.
+// Creates the control socket of a file at a free path. Nobody can connect before the socket has its permissions: it is
+// made in a folder that only its owner can enter.
 fn listen_alone(rt: &HostRuntime, file: &str, path: &str) -> io::Result<UnixListener> {
     let folder = private_folder(rt.alloc(), file)?;
     let socket = format!(in rt.alloc(); "{folder}/s")?;

@@ -1,12 +1,10 @@
 -- Sums over standings and rows: at a place, in another order, and as one row is added.
-use Rattle.std.proofs.Common.{◌≡◌, ◌∙◌, ◌+◌, ◌<◌, ◌≤◌, ◌==◌, ℕ, suc, Bool, true, false}
-use Rattle.std.proofs.Common.{None, List, [], ◌∷◌, ◌++◌, length, get_or, set, take, refl, sym, ap, subst, arith}
-use Rattle.std.proofs.Common.{inl, inr}
+use Rattle.std.proofs.Common.{◌≡◌, ◌∙◌, ◌+◌, ◌<◌, ◌≤◌, ◌==◌, ℕ, Bool, true, false}
+use Rattle.std.proofs.Common.{None, List, [], ◌∷◌, ◌++◌, length, get_or, set, take, refl, sym, subst, arith}
 use Rattle.std.proofs.Common.{length-set}
 use Rattle.std.specs.Prelude.{if◌then◌else◌}
 use Rattle.std.specs.List.{count_by, position, position_or_len, remove}
 use Rattle.std.specs.List.Sorted.{IsPermutation}
-use Rattle.std.proofs.lemmas.Bool.{cases_Bool, eqb-true}
 use Rattle.std.proofs.lemmas.Grind.{common_steps}
 use Rattle.std.proofs.lemmas.List.{get_or-set_same}
 use Rattle.std.proofs.lemmas.List.Sums.{sum_by-cons, sum_by-set, sum_by-remove, sum_by_push, sum_by-take-le}
@@ -15,8 +13,8 @@ use Rattle.std.proofs.lemmas.List.Sorted.{sum_by-IsPermutation}
 use Rattle.cross_tables.specs.declared.sums.ScoreTotals.{ScoreTotals}
 use Rattle.cross_tables.specs.declared.sums.OpponentScore.{OpponentScore}
 use Rattle.cross_tables.specs.declared.standings.Standing.{Standing}
-use Rattle.cross_tables.specs.Totals.{AreTotals, IsEachOnce, total, shown, times}
-use Rattle.cross_tables.specs.internal.Totals.{Fit, plus_sums, raised, totals}
+use Rattle.cross_tables.specs.Totals.{AreTotals, IsEachOnce, total, totals, shown, times}
+use Rattle.cross_tables.specs.internal.Totals.{Fit, plus_sums, raised}
 
 -- what an element adds for a member
 abbrev pub adds : Bool → ℕ → ℕ
@@ -28,25 +26,15 @@ adds-plus false m n = refl
 
 -- ---- a member in a list
 
-pub times-cons : (m : ℕ) (x : Standing) (xs : List Standing) → times m (x ∷ xs) ≡ adds (x.member == m) 1 + times m xs
+times-cons : (m : ℕ) (x : Standing) (xs : List Standing) → times m (x ∷ xs) ≡ adds (x.member == m) 1 + times m xs
 times-cons m x xs = sum_by-cons (λ s. if s.member == m then 1 else 0) x xs
 
-pub placed : (m : ℕ) (xs : List Standing) → 0 < times m xs
-    → (i : ℕ) × (i < length xs) × ((d : Standing) → (get_or xs i d).member ≡ m)
-placed m [] h = absurd (omega (arith, h))
-placed m (x ∷ xs) h = elim (cases_Bool (x.member == m)) [
-  | inl is ↦ (0, omega arith, λ _. eqb-true x.member m is)
-  | inr other ↦
-      let (i, low, at) = placed m xs (omega (arith, h, times-cons m x xs, ap (λ b. adds b 1) other)) in
-      (suc i, omega (arith, low), at)
-]
-
-pub stands-here : (m : ℕ) (xs : List Standing) (i : ℕ) (d : Standing) → i < length xs → (get_or xs i d).member ≡ m
+stands-here : (m : ℕ) (xs : List Standing) (i : ℕ) (d : Standing) → i < length xs → (get_or xs i d).member ≡ m
     → 0 < times m xs
 stands-here m xs i d h is =
     grind (arith, common_steps, get_or-le-sum_by (λ s. if s.member == m then 1 else 0) xs i d h)
 
-none-shown : (part : ScoreTotals → ℕ) (m : ℕ) (xs : List Standing) → times m xs ≡ 0 → shown part m xs ≡ 0
+pub none-shown : (part : ScoreTotals → ℕ) (m : ℕ) (xs : List Standing) → times m xs ≡ 0 → shown part m xs ≡ 0
 none-shown part m [] h = refl
 none-shown part m (x ∷ xs) h = grind (
   arith,

@@ -1,3 +1,6 @@
 pub mod Alike
 pub mod Adding
+pub mod FieldExample
+pub mod FieldLemmas
 pub mod Proved
+pub mod Ranked

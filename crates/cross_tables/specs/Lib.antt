@@ -1,4 +1,5 @@
 pub mod Cells
+pub mod Field
 pub mod Lines
 pub mod Places
 pub mod Totals

@@ -14,6 +14,16 @@ games sums = sums.wins + sums.draws + sums.losses
 abbrev pub total : (ScoreTotals → ℕ) → ℕ → List OpponentScore → ℕ
 total part member rows = sum_by (λ row. if row.member == member then part row.sums else 0) rows
 
+-- The totals of a member.
+abbrev pub totals : ℕ → List OpponentScore → ScoreTotals
+totals member rows =
+    record {
+      points = total (λ s. s.points) member rows;
+      wins = total (λ s. s.wins) member rows;
+      draws = total (λ s. s.draws) member rows;
+      losses = total (λ s. s.losses) member rows;
+    }
+
 -- The number of a member's rows.
 abbrev pub rows_of : ℕ → List OpponentScore → ℕ
 rows_of member rows = count_by (λ row. row.member == member) rows

@@ -8,8 +8,8 @@ ghost use Rattle.std.specs.Ordering.{is_lt};
 ghost use Rattle.cross_tables.specs.declared.standings.Standing.{Standing};
 ghost use Rattle.cross_tables.specs.declared.standings.StandingsFault.TheVariants as fault;
 ghost use Rattle.cross_tables.specs.declared.sums.OpponentScore.{OpponentScore};
-ghost use Rattle.cross_tables.specs.Totals.{AreTotals};
-ghost use Rattle.cross_tables.specs.internal.Totals.{Fit, plus_sums, raised, totals};
+ghost use Rattle.cross_tables.specs.Totals.{AreTotals, totals};
+ghost use Rattle.cross_tables.specs.internal.Totals.{Fit, plus_sums, raised};
 ghost use Rattle.cross_tables.specs.Places.{AreRanked, precedes};
 
 use crate::sums::{OpponentScore, ScoreTotals};

@@ -1,2 +1,3 @@
+pub mod AnalysisLemmas
 pub mod BodyLemmas
 pub mod PageLemmas

@@ -1,5 +1,6 @@
 pub mod Refusals
 pub mod Reply
 pub mod ShownViews
+pub mod Analyses
 pub mod Bodies
 pub mod internal

@@ -108,7 +108,12 @@ abbrev pub page_reply : Caching → Bool → List ℕ
 page_reply caching without_body =
     reply_bytes 200 Html (policy_line policy ++ caching_lines caching) page without_body
 
+-- the header line that says after how many seconds to try again (RFC 9110, section 10.2.3), if the fault passes soon
+abbrev pub retry_lines : Bool → List ℕ
+retry_lines passes_soon = if passes_soon then codes "Retry-After: 2\r\n" else []
+
 -- the 503 reply for a fault of the club
-abbrev pub fault_reply : ℕ → List ℕ → Caching → Bool → List ℕ
-fault_reply n name caching without_body =
-    reply_bytes 503 Json (caching_lines caching) (compact_text (error_data n name)) without_body
+abbrev pub fault_reply : ℕ → List ℕ → Bool → Caching → Bool → List ℕ
+fault_reply n name passes_soon caching without_body =
+    reply_bytes 503 Json (retry_lines passes_soon ++ caching_lines caching) (compact_text (error_data n name))
+    without_body

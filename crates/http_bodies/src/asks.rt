@@ -18,7 +18,7 @@ fn is_memory(error: &Error) -> bool
 }
 
 // The body as JSON; `None` if it is malformed.
-fn json_of(alloc: Global, body: &[u8]) -> Result<Option<Value>, AllocError>
+pub(crate) fn json_of(alloc: Global, body: &[u8]) -> Result<Option<Value>, AllocError>
     ensures { IfOk result (λ v. option_map view v ≡ json_of body.now) }
 {
     match Value::from_slice(alloc, body) {

@@ -5,17 +5,19 @@
 //!
 //! # Guarantees
 //!
-//! - `move_text`, `challenge_of`, `answer_of`: a body is parsed to what its JSON says, or to nothing.
+//! - `move_text`, `challenge_of`, `answer_of`, `analysis_of`: a body is parsed to what its JSON says, or to nothing.
 //! - `answer_text`, `refusal_reply`, `fault_reply`, `shown_reply`, `page_reply`, `status_of`: each reply is its
 //!   status, its fields and the one compact text of its data.
 #![tactic(auto)]
 
+mod analyses;
 mod asks;
 mod bodies;
 pub mod refusals;
 mod reply;
 pub mod status;
 
+pub use analyses::analysis_of;
 pub use asks::{answer_of, challenge_of, move_text};
 pub use bodies::answer_text;
 pub use refusals::{HttpRefusal, Method};

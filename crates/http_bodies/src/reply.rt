@@ -5,7 +5,7 @@ ghost use Rattle.serde_json.specs.Written.{compact_text, has_float};
 ghost use Rattle.serde_json.specs.View.{view};
 ghost use Rattle.http_bodies.specs.Reply.{kind_text, status_line, type_line, length_line, reply_head, reply_bytes};
 ghost use Rattle.http_bodies.specs.Reply.{caching_lines, key_lines, further_lines, refusal_reply, error_data};
-ghost use Rattle.http_bodies.specs.Reply.{fault_reply, shown_reply, policy_line, page_reply};
+ghost use Rattle.http_bodies.specs.Reply.{fault_reply, retry_lines, shown_reply, policy_line, page_reply};
 ghost use Rattle.http_bodies.specs.internal.ReplyViews.{lines_of};
 ghost use Rattle.club_page.specs.Joined.{page};
 
@@ -319,7 +319,19 @@ pub fn page_reply(
     )
 }
 
-/// The 503 reply for a fault of the club, with its error number and name.
+// The header line that says when to try again, for a fault that passes soon.
+fn retry_lines(passes_soon: bool) -> &'static str
+    ensures { result.now ≡ retry_lines passes_soon }
+{
+    if passes_soon {
+        "Retry-After: 2\r\n"
+    } else {
+        ""
+    }
+}
+
+/// The 503 reply for a fault of the club, with its error number and name, and with `Retry-After` if the fault passes
+/// soon.
 ///
 /// # Errors
 ///
@@ -328,11 +340,15 @@ pub fn fault_reply(
     alloc: Global,
     number: u16,
     name: &str,
+    passes_soon: bool,
     caching: Caching,
     without_body: bool,
 ) -> Result<Vec<u8>, AllocError>
-    ensures { IfOk result (λ v. v.items ≡ fault_reply number name.now caching without_body) }
+    ensures { IfOk result (λ v. v.items ≡ fault_reply number name.now passes_soon caching without_body) }
 {
-    let further = FurtherLines { own: "", caching };
+    let further = FurtherLines {
+        own: retry_lines(passes_soon),
+        caching,
+    };
     error_reply(alloc, 503, further, number, name, without_body)
 }

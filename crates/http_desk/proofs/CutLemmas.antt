@@ -3,6 +3,7 @@ use Rattle.std.proofs.Common.{◌≡◌, ◌∙◌, ℕ, ◌+◌, ◌≤◌, Lis
 use Rattle.std.proofs.Common.{◌==◌}
 use Rattle.std.proofs.Common.{Option, Some, None, if◌then◌else◌, refl, sym, ap, arith, one-add, take_all}
 use Rattle.std.proofs.lemmas.Bool.Decides.{nat_tests}
+use Rattle.std.proofs.lemmas.List.{length-take}
 use Rattle.std.specs.List.{position_or_len, prefix_len}
 use Rattle.http_desk.specs.Paths.{before}
 
@@ -30,3 +31,7 @@ pub before_none : (b : ℕ) (bytes : List ℕ) → first_place b bytes ≡ None 
 before_none b bytes is =
     let all : length bytes ≤ position_or_len (λ x. x == b) bytes = grind (arith, nat_tests) in
     sym (take_all (position_or_len (λ x. x == b) bytes) bytes all) ∙ before_place b bytes
+
+pub before_le : (b : ℕ) (bytes : List ℕ) → length (before b bytes) ≤ length bytes
+before_le b bytes =
+    rw (← before_place b bytes) (omega (arith, length-take (position_or_len (λ x. x == b) bytes) bytes))

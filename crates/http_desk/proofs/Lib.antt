@@ -1,3 +1,4 @@
+pub mod AnalysisServed
 pub mod RouteLemmas
 pub mod CutLemmas
 pub mod FilledPaths
@@ -7,3 +8,4 @@ pub mod WalkedPaths
 pub mod SegmentLemmas
 pub mod AskedRoutes
 pub mod EachRow
+pub mod HostLemmas

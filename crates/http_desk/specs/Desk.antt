@@ -12,9 +12,10 @@ use Rattle.http_head.specs.Request.{HttpRequest, ParseState, unfinished, refused
 use Rattle.http_bodies.specs.declared.refusals.Method.{Method}
 use Rattle.http_bodies.specs.declared.refusals.Method.TheVariants.{Get, Post}
 use Rattle.http_bodies.specs.declared.refusals.HttpRefusal.{HttpRefusal}
-use Rattle.http_bodies.specs.declared.refusals.HttpRefusal.TheVariants.{Head, NoRoute, WrongMethod, BadBody, Club as OfClub}
+use Rattle.http_bodies.specs.declared.refusals.HttpRefusal.TheVariants.{Head, NoRoute, WrongMethod, BadBody}
+use Rattle.http_bodies.specs.declared.refusals.HttpRefusal.TheVariants.{Club as OfClub}
 use Rattle.http_desk.specs.declared.faults.ClubFault.{ClubFault}
-use Rattle.http_desk.specs.Faults.{club_fault_number, club_fault_name}
+use Rattle.http_desk.specs.Faults.{club_fault_number, club_fault_name, passes_soon}
 use Rattle.http_desk.specs.declared.table.Access.{Access}
 use Rattle.http_desk.specs.declared.table.Access.TheVariants.{Public, Members}
 use Rattle.http_desk.specs.declared.table.GameAction.{GameAction}
@@ -24,12 +25,16 @@ use Rattle.http_desk.specs.declared.table.Topic.{Topic}
 use Rattle.http_desk.specs.declared.table.Topic.TheVariants as topic
 use Rattle.http_desk.specs.Routes.{Endpoint, caching_for, match_route}
 use Rattle.http_desk.specs.Questions.{Asks}
+use Rattle.club_requests.specs.Analysis.{Analysis, analysis_view}
+use Rattle.club_requests.specs.declared.questions.Analysis as given_analysis
 use Rattle.club_requests.specs.declared.questions.Question.{Question}
+use Rattle.club_requests.specs.declared.questions.Question.TheVariants as asks
 use Rattle.http_bodies.specs.declared.reply.Caching.{Caching}
 use Rattle.http_bodies.specs.declared.reply.Caching.TheVariants.{Unspecified}
 use Rattle.http_bodies.specs.declared.reply.ContentType.{ContentType}
 use Rattle.http_bodies.specs.declared.reply.ContentType.TheVariants.{Json}
 use Rattle.http_bodies.specs.Reply.{refusal_reply, shown_reply, page_reply, fault_reply}
+use Rattle.http_bodies.specs.Analyses.{analysis_of}
 use Rattle.http_bodies.specs.Bodies.{reply_data, move_text, challenge_of, answer_of}
 use Rattle.http_desk.specs.Served.{Club, IsOfCall}
 
@@ -45,10 +50,11 @@ answer_reply (refusal r) caching without_body = refusal_reply r caching without_
 answer_reply (shows kind bytes) caching without_body = shown_reply kind bytes caching without_body
 answer_reply shows_page caching without_body = page_reply caching without_body
 
--- the expected answer: this one, or the club's answer to a query of a member at a timestamp
+-- the expected answer: this one, or the club's answer to a query of a member or to an analysis at a timestamp
 pub data ExpectedReply : Type 0 where
   this : Answer → ExpectedReply
   question_page : (moment : ℕ) → QuestionTopic → ContentType → Endpoint → (key : List ℕ) → ExpectedReply
+  analysis_page : (moment : ℕ) → Analysis → ExpectedReply
 
 -- ---- queries
 
@@ -63,6 +69,14 @@ IsExpectedReply club s (this expected) given = given ≡ expected
 IsExpectedReply club s (question_page moment about kind asked key) given = (question : Question)
     × Asks about asked key question × (shown : Result (List ℕ) of_club.Refusal) × club.IsShown s moment question shown
     × (given ≡ question_answer kind shown)
+IsExpectedReply club s (analysis_page moment analysis) given = (asked : given_analysis.Analysis)
+    × (analysis_view asked ≡ analysis) × (shown : Result (List ℕ) of_club.Refusal)
+    × club.IsShown s moment (asks.Analysis asked) shown × (given ≡ question_answer Json shown)
+
+-- the club answers the analysis, if there is one; its state is unchanged
+abbrev pub serve_analysis : {S : Type 0} → Club S → S → ℕ → Option Analysis → S × ExpectedReply
+serve_analysis club s moment None = (s, this (refusal BadBody))
+serve_analysis club s moment (Some analysis) = (s, analysis_page moment analysis)
 
 -- ---- commands
 
@@ -107,6 +121,7 @@ is_method bytes Post = bytes_eq bytes (codes "POST")
 abbrev pub serve_topic : {S : Type 0} → Club S → S → ℕ → List ℕ → List ℕ → Endpoint → Topic → S × ExpectedReply
 serve_topic club s moment key body asked topic.MembersPage = (s, this shows_page)
 serve_topic club s moment key body asked (topic.Question about kind) = (s, question_page moment about kind asked key)
+serve_topic club s moment key body asked (topic.Analysis kind) = serve_analysis club s moment (analysis_of kind body)
 serve_topic club s moment key body asked (topic.OnGame given) =
     serve_command club s moment key asked.id (option_map (game_command asked.id) (command_given given asked.ply body))
 serve_topic club s moment key body asked topic.Challenge =
@@ -184,17 +199,21 @@ caching_behind (whole request) = caching_for request.target
 
 -- ---- replies
 
+-- the 503 reply that reports a fault of the club
+abbrev pub club_fault_reply : ClubFault → Caching → Bool → List ℕ
+club_fault_reply fault caching without_body =
+    fault_reply (club_fault_number fault) (club_fault_name fault) (passes_soon fault) caching without_body
+
 -- the reply reports a fault of the club, and one of two states is left
 abbrev pub ReportsFault : {S : Type 0} → (S → S → Type 0) → S → S → Caching → Bool → List ℕ → Type 0
 ReportsFault leaves s next caching without_body reply =
-    (fault : ClubFault) × IsOfCall fault
-    × (reply ≡ fault_reply (club_fault_number fault) (club_fault_name fault) caching without_body) × leaves s next
+    (fault : ClubFault) × IsOfCall fault × (reply ≡ club_fault_reply fault caching without_body) × leaves s next
 
 -- nobody is named but the sender of the request; nobody at all only if the reply reports a fault
 abbrev pub NamesCaller : {S : Type 0} → Club S → S → Bool → ParseState → List ℕ → Option (List ℕ) → Type 0
 NamesCaller club s without_body seen reply told = (told ≡ caller_behind club s seen)
     ⊎ ((told ≡ None) × (fault : ClubFault) × IsOfCall fault
-    × (reply ≡ fault_reply (club_fault_number fault) (club_fault_name fault) (caching_behind seen) without_body))
+    × (reply ≡ club_fault_reply fault (caching_behind seen) without_body))
 
 -- the reply has the expected answer, and the club is in the next state
 abbrev pub ShowsDue : {S : Type 0} → Club S → (S → Type 0) → S → S × ExpectedReply → Caching → Bool → List ℕ → Type 0
@@ -203,7 +222,8 @@ ShowsDue club stands s due caching without_body reply =
     × stands due.0
 
 -- the reply to the result of parsing, and the state of the club after it
-abbrev pub IsReply : {S : Type 0} → Club S → (S → Type 0) → (S → S → Type 0) → S → ℕ → Bool → ParseState → List ℕ → Type 0
+abbrev pub IsReply : {S : Type 0} → Club S → (S → Type 0) → (S → S → Type 0) → S → ℕ → Bool → ParseState → List ℕ
+    → Type 0
 IsReply club stands leaves s moment without_body unfinished reply = (reply ≡ []) × stands s
 IsReply club stands leaves s moment without_body (refused r) reply =
     (reply ≡ refusal_reply (Head r) Unspecified without_body) × stands s
@@ -218,8 +238,8 @@ next_state club s moment (refused r) = s
 next_state club s moment (whole request) = (serve club s moment request).0
 
 -- a call replies, or fails by itself and leaves one of the two states
-abbrev pub RepliesTo : {S A F : Type 0} → Club S → (S → Type 0) → (S → S → Type 0) → (A → List ℕ) → S → ℕ → Bool → ParseState
-    → Result A F → Type 0
+abbrev pub RepliesTo : {S A F : Type 0} → Club S → (S → Type 0) → (S → S → Type 0) → (A → List ℕ) → S → ℕ → Bool
+    → ParseState → Result A F → Type 0
 RepliesTo club stands leaves view s moment without_body seen (Ok reply) =
     IsReply club stands leaves s moment without_body seen (view reply)
 RepliesTo club stands leaves view s moment without_body seen (Err fault) = leaves s (next_state club s moment seen)
@@ -249,8 +269,7 @@ shut_serve fault request = shut_asked fault request (match_route request.target)
 -- the bytes of the reply with this answer, or of the reply that reports the fault
 abbrev pub shut_text : Result Answer ClubFault → Caching → Bool → List ℕ
 shut_text (Ok given) caching without_body = answer_reply given caching without_body
-shut_text (Err fault) caching without_body =
-    fault_reply (club_fault_number fault) (club_fault_name fault) caching without_body
+shut_text (Err fault) caching without_body = club_fault_reply fault caching without_body
 
 -- the reply to the result of parsing: a request that needs the club gets the fault
 abbrev pub shut_reply : ClubFault → Bool → ParseState → List ℕ
@@ -261,7 +280,8 @@ shut_reply fault without_body (whole request) =
 
 -- the same for bytes
 abbrev pub IsShutReply : ClubFault → List ℕ → List ℕ → Type 0
-IsShutReply fault bytes reply = (seen : ParseState) × Sees bytes seen × (reply ≡ shut_reply fault (asks_head bytes) seen)
+IsShutReply fault bytes reply =
+    (seen : ParseState) × Sees bytes seen × (reply ≡ shut_reply fault (asks_head bytes) seen)
 
 -- ---- bytes
 

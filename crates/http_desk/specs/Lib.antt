@@ -1,5 +1,7 @@
 pub mod Faults
+pub mod Hosts
 pub mod Paths
+pub mod Patterns
 pub mod Routes
 pub mod Questions
 pub mod Served

@@ -1,6 +1,6 @@
 -- The path of a request target, and its segments.
-use Rattle.std.specs.Prelude.{ℕ, Bool, ◌&&◌, ◌==◌, List, [], ◌∷◌, Option, Some, None, codes, length, take, drop, nat_lt}
-use Rattle.std.specs.Prelude.{if◌then◌else◌}
+use Rattle.std.specs.Prelude.{ℕ, Bool, ◌+◌, ◌&&◌, ◌==◌, List, [], ◌∷◌, Option, Some, None, codes, length, take, drop}
+use Rattle.std.specs.Prelude.{nat_lt, if◌then◌else◌}
 use Rattle.std.specs.Str.{bytes_eq}
 
 -- the byte between the segments of a path
@@ -11,6 +11,10 @@ slash = 47
 abbrev pub before : ℕ → List ℕ → List ℕ
 before b [] = []
 before b (x ∷ bytes) = if x == b then [] else x ∷ before b bytes
+
+-- the bytes after the first `b`
+abbrev pub rest_after : ℕ → List ℕ → List ℕ
+rest_after b bytes = drop (length (before b bytes) + 1) bytes
 
 -- the bytes begin with these
 abbrev pub starts_with : List ℕ → List ℕ → Bool

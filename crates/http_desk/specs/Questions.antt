@@ -20,6 +20,7 @@ Asks topic.GameClock endpoint key question = question ≡ asked.GameClock endpoi
 Asks topic.GamePage endpoint key question = question ≡ asked.GamePage endpoint.id
 Asks topic.EventTable endpoint key question = HasText endpoint.name (λ text. asked.CrossTable text) question
 Asks topic.EventGames endpoint key question = HasText endpoint.name (λ text. asked.EventGames text) question
+Asks topic.EventStandings endpoint key question = HasText endpoint.name (λ text. asked.EventStandings text) question
 Asks topic.MyGames endpoint key question = HasText key (λ text. asked.MyGames text) question
 Asks topic.MyEndedGames endpoint key question = HasText key (λ text. asked.EndedGames text) question
 Asks topic.MyEvents endpoint key question = HasText key (λ text. asked.ChallengeChoices text) question

@@ -7,7 +7,7 @@ ghost use Rattle.http_desk.specs.Desk.{is_method, answer_reply, serve_page, serv
 ghost use Rattle.http_desk.specs.Desk.{serve};
 ghost use Rattle.http_desk.specs.Desk.{RepliesTo, Answers, shut_known, shut_caller, shut_asked, shut_serve};
 ghost use Rattle.http_desk.specs.internal.Desk.{ServesDue};
-ghost use Rattle.http_desk.specs.Desk.{shut_text, shut_reply, IsShutReply};
+ghost use Rattle.http_desk.specs.Desk.{club_fault_reply, shut_text, shut_reply, IsShutReply};
 ghost use Rattle.http_desk.specs.Desk.{known_caller, caller_for, asked_caller, caller};
 ghost use Rattle.http_desk.specs.internal.Desk.{NamesExpectedCaller};
 ghost use Rattle.http_desk.specs.Desk.{NamesCaller, NamesCallerOf};
@@ -16,7 +16,7 @@ ghost use Rattle.http_desk.specs.internal.DeskViews.{answer_view, endpoint_view,
 
 use crate::commands::{serve_command, turn_given, withdrawal};
 use crate::faults::{ClubFault, DeskFault};
-use crate::pages::serve_question;
+use crate::pages::{serve_analysis, serve_question};
 use crate::routes::{Endpoint, Routes, caching_at, text_of};
 use crate::served::ClubService;
 use crate::table::{Access, Topic};
@@ -102,6 +102,7 @@ fn serve_page<C: ClubService>(
         Topic::Question(topic, kind) => {
             serve_question(alloc, club, key, (topic, kind), asked, moment)
         }
+        Topic::Analysis(kind) => serve_analysis(alloc, club, kind, body, moment),
         Topic::OnGame(action) => {
             let command = turn_given(alloc, action, asked, body)?;
             serve_command(alloc, club, key, asked.id, command, moment)
@@ -292,6 +293,26 @@ fn answer_reply(
     }
 }
 
+// The reply that reports a fault of the club.
+fn club_fault_reply(
+    alloc: Global,
+    fault: ClubFault,
+    caching: Caching,
+    without_body: bool,
+) -> Result<Vec<u8>, AllocError>
+    ensures { IfOk result (λ v. v.items ≡ club_fault_reply fault caching without_body) }
+{
+    let (number, name) = (fault.number(), fault.name());
+    fault_reply(
+        alloc,
+        number,
+        name,
+        fault.passes_soon(),
+        caching,
+        without_body,
+    )
+}
+
 // The reply to a complete request.
 fn reply_whole<C: ClubService>(
     alloc: Global,
@@ -323,7 +344,7 @@ fn reply_whole<C: ClubService>(
         }
         Err(AnswerFault::Memory) => Err(DeskFault::Memory),
         Err(AnswerFault::Club(fault)) => {
-            let reply = fault_reply(alloc, fault.number(), fault.name(), caching, without_body)?;
+            let reply = club_fault_reply(alloc, fault, caching, without_body)?;
             Ok(AttributedReply { reply, caller })
         }
     }
@@ -386,7 +407,7 @@ fn reply<C: ClubService>(
 /// - `replies`: the reply is the one that the club's state and the request determine, or reports a fault of the club;
 ///   the request is executed at most once.
 /// - `caller`: the member named is the holder of the key.
-/// - `shut`, `nobody`: a failed club answers with its fault and names nobody.
+/// - `shut`, `nobody`: a failed club answers with its fault, and no member is named.
 pub fn answer<C: ClubService>(
     alloc: Global,
     routes: &Routes,

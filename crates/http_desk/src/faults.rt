@@ -1,6 +1,6 @@
 //! Faults of a connection and of a club.
 ghost use Rattle.std.specs.Prelude.{◌≡◌};
-ghost use Rattle.http_desk.specs.Faults.{club_fault_number, club_fault_name};
+ghost use Rattle.http_desk.specs.Faults.{club_fault_number, club_fault_name, passes_soon};
 
 use std::alloc::AllocError;
 use thiserror::Error;
@@ -30,7 +30,7 @@ impl From<AllocError> for DeskFault {
     }
 }
 
-/// Why a club is unavailable: its file could not be opened, or a call failed.
+/// Why a club is unavailable: its file could not be opened or is leased, a call failed, or there is no timestamp.
 #[derive(Clone, Copy, Debug, PartialEq, Eq)]
 pub enum ClubFault {
     /// The file is not a club file.
@@ -45,10 +45,14 @@ pub enum ClubFault {
     Reopen,
     /// Out of memory.
     Memory,
+    /// The file is released to another program for some seconds.
+    Leased,
+    /// The system clock failed, or is out of the range of timestamps.
+    Clock,
 }
 
 impl ClubFault {
-    /// The error number in the reply: 70 to 75.
+    /// The error number in the reply: 70 to 76.
     pub fn number(self) -> u16
         ensures { result ≡ club_fault_number self }
     {
@@ -59,6 +63,8 @@ impl ClubFault {
             ClubFault::Store => 73,
             ClubFault::Reopen => 74,
             ClubFault::Memory => 75,
+            ClubFault::Leased => 73,
+            ClubFault::Clock => 76,
         }
     }
 
@@ -73,6 +79,24 @@ impl ClubFault {
             ClubFault::Store => "Store",
             ClubFault::Reopen => "Reopen",
             ClubFault::Memory => "Memory",
+            ClubFault::Leased => "Store",
+            ClubFault::Clock => "Input",
+        }
+    }
+
+    /// Whether the fault passes within some seconds, so that the reply says when to try again.
+    pub fn passes_soon(self) -> bool
+        ensures { result ≡ passes_soon self }
+    {
+        match self {
+            ClubFault::Foreign => false,
+            ClubFault::Schema => false,
+            ClubFault::Damaged => false,
+            ClubFault::Store => false,
+            ClubFault::Reopen => false,
+            ClubFault::Memory => false,
+            ClubFault::Leased => true,
+            ClubFault::Clock => false,
         }
     }
 }

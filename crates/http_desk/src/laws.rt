@@ -5,6 +5,7 @@ ghost use Rattle.http_head.specs.Request.{HttpRequest};
 ghost use Rattle.http_desk.specs.declared.faults.ClubFault.{ClubFault};
 ghost use Rattle.http_desk.specs.Desk.{outcome_answer, this, shows_page, serve, shut_serve};
 ghost use Rattle.http_desk.specs.There.{AreAllRoutes, AreFound, HaveCaching};
+ghost use Rattle.http_desk.specs.Patterns.{ArePaths};
 
 use crate::served::ClubService;
 
@@ -24,10 +25,14 @@ pub fn paths_are_found()
     ensures { AreFound }
 {}
 
-/// The replies on the paths of the first description of the interface say nothing about caching; all others may not be
-/// stored.
+/// The replies of each route have `Cache-Control: no-store`, except those that the route table marks `Unspecified`.
 pub fn further_replies_are_not_stored()
     ensures { HaveCaching }
+{}
+
+/// The pattern of each route is its path in the table.
+pub fn patterns_are_paths()
+    ensures { ArePaths }
 {}
 
 /// GET `/play` shows the members' page with any key or none, also if the club is unavailable.

@@ -1,5 +1,6 @@
 //! Routes that query the club.
-ghost use Rattle.http_desk.specs.Desk.{question_page};
+ghost use Rattle.http_bodies.specs.Analyses.{analysis_of};
+ghost use Rattle.http_desk.specs.Desk.{question_page, serve_analysis};
 ghost use Rattle.http_desk.specs.internal.Desk.{ServesDue};
 ghost use Rattle.http_desk.specs.internal.DeskViews.{answer_view, endpoint_view};
 
@@ -9,7 +10,9 @@ use crate::routes::Endpoint;
 use crate::served::ClubService;
 use crate::table::QuestionTopic;
 use clocks::Moment;
-use http_bodies::{ContentType, HttpRefusal};
+use club_requests::Question;
+use club_rules::GameKind;
+use http_bodies::{ContentType, HttpRefusal, analysis_of};
 use std::alloc::Global;
 
 // Answers the query of an endpoint on a topic, as a body of a content type.
@@ -31,5 +34,28 @@ pub(crate) fn serve_question<C: ClubService>(
     match club.ask(alloc, &question, moment)? {
         Ok(bytes) => Ok(Response::Shows(kind, bytes)),
         Err(refusal) => Ok(Response::Refused(HttpRefusal::Club(refusal))),
+    }
+}
+
+// Answers an analysis by the rules of a game that a body states.
+pub(crate) fn serve_analysis<C: ClubService>(
+    alloc: Global,
+    club: &mut C,
+    kind: GameKind,
+    body: &[u8],
+    moment: Moment,
+) -> Result<Response, AnswerFault>
+    ensures clean { C.IsClean club.new → C.IsClean club.old }
+    ensures serves { C.IsClean club.new → (s : C.State) → C.Stands club.old s →
+        ServesDue C.club (C.Stands club.new) (C.Leaves club.new) answer_view s
+        (serve_analysis C.club s moment (analysis_of kind body.now)) result }
+{
+    let Some(analysis) = analysis_of(alloc, kind, body)? else {
+        return Ok(Response::Refused(HttpRefusal::BadBody));
+    };
+    let question = Question::Analysis(analysis);
+    match club.ask(alloc, &question, moment)? {
+        Ok(bytes) => Ok(Response::Shows(ContentType::Json, bytes)),
+        Err(reason) => Ok(Response::Refused(HttpRefusal::Club(reason))),
     }
 }

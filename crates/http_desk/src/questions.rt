@@ -32,6 +32,10 @@ pub(crate) fn question_of(
             let event = String::from_str(alloc, endpoint.name)?;
             Ok(Question::EventGames(event))
         }
+        QuestionTopic::EventStandings => {
+            let event = String::from_str(alloc, endpoint.name)?;
+            Ok(Question::EventStandings(event))
+        }
         QuestionTopic::MyGames => {
             let key = String::from_str(alloc, key)?;
             Ok(Question::MyGames(key))

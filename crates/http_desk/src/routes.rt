@@ -1,14 +1,16 @@
 //! The router: from a request target to an endpoint, a route with the parameters of a path.
 ghost use Rattle.std.specs.Prelude.{◌≡◌, [], IfOk, Ok, length, map, option_map};
 ghost use Rattle.matchit.specs.Params.{AllText, named};
-ghost use Rattle.http_desk.specs.Paths.{before, starts_with, path_after_authority, path_of};
+ghost use Rattle.http_desk.specs.Paths.{before, rest_after, starts_with, path_after_authority, path_of};
 ghost use Rattle.http_desk.specs.internal.Paths.{text_of};
 ghost use Rattle.http_desk.specs.Routes.{route_with, with_routes, number_given, text_given, match_route};
 ghost use Rattle.http_desk.specs.Routes.{caching_at};
+ghost use Rattle.http_desk.specs.Patterns.{pattern_of, analysis_pattern, question_pattern, action_pattern};
 ghost use Rattle.http_desk.specs.internal.Taken.{parts_taken, endpoint_taken};
 ghost use Rattle.http_desk.specs.internal.DeskViews.{endpoint_view};
 
-use crate::table::{Access, Route, TABLE, Topic};
+use crate::table::{Access, GameAction, QuestionTopic, Route, TABLE, Topic};
+use club_rules::GameKind;
 use http_bodies::{Caching, Method};
 use http_head::number_of;
 use matchit::{InsertError, Params, Router};
@@ -40,6 +42,17 @@ pub fn front(bytes: &[u8], byte: u8) -> &[u8]
         Some(i) => &bytes[..i],
         None => bytes,
     }
+}
+
+/// The bytes after the first `byte`; none if there is none.
+pub fn rest_after(bytes: &[u8], byte: u8) -> &[u8]
+    ensures { result.now ≡ rest_after byte bytes.now }
+{
+    let n = front(bytes, byte).len();
+    if n >= bytes.len() {
+        return &[];
+    }
+    &bytes[n + 1..]
 }
 
 /// Whether `bytes` starts with `front`.
@@ -153,6 +166,64 @@ pub fn caching_at(asked: Option<Endpoint<'_>>) -> Caching
     match asked {
         None => Caching::Unspecified,
         Some(asked) => asked.route.caching,
+    }
+}
+
+/// The path in the route table of what a route serves.
+pub fn pattern_of(topic: Topic) -> &'static str
+    ensures { result.now ≡ pattern_of topic }
+{
+    match topic {
+        Topic::MembersPage => "/play",
+        Topic::Question(topic, _) => question_pattern(topic),
+        Topic::Analysis(kind) => analysis_pattern(kind),
+        Topic::OnGame(action) => action_pattern(action),
+        Topic::Challenge => "/challenges/{number}",
+        Topic::Withdraw => "/challenges/{number}/withdraw",
+        Topic::Answer => "/answers/{member}/{number}",
+    }
+}
+
+// The path of an analysis by the rules of a game.
+fn analysis_pattern(kind: GameKind) -> &'static str
+    ensures { result.now ≡ analysis_pattern kind }
+{
+    match kind {
+        GameKind::Draughts => "/analysis/draughts",
+        GameKind::Shogi => "/analysis/shogi",
+    }
+}
+
+// The path of a query.
+fn question_pattern(topic: QuestionTopic) -> &'static str
+    ensures { result.now ≡ question_pattern topic }
+{
+    match topic {
+        QuestionTopic::GameView => "/games/{id}",
+        QuestionTopic::LegalMoves => "/games/{id}/legal",
+        QuestionTopic::GameRecord => "/games/{id}/record",
+        QuestionTopic::GameClock => "/games/{id}/clock",
+        QuestionTopic::GamePage => "/games/{id}/page",
+        QuestionTopic::EventTable => "/events/{name}/table",
+        QuestionTopic::EventGames => "/events/{name}/games",
+        QuestionTopic::EventStandings => "/events/{name}/standings",
+        QuestionTopic::MyGames => "/me",
+        QuestionTopic::MyEndedGames => "/me/ended",
+        QuestionTopic::MyEvents => "/me/events",
+    }
+}
+
+// The path of a command on a game.
+fn action_pattern(action: GameAction) -> &'static str
+    ensures { result.now ≡ action_pattern action }
+{
+    match action {
+        GameAction::MakeMove => "/games/{id}/moves/{ply}",
+        GameAction::OfferDraw => "/games/{id}/draw/{ply}/offer",
+        GameAction::AcceptDraw => "/games/{id}/draw/{ply}/accept",
+        GameAction::Resign => "/games/{id}/resign",
+        GameAction::ClaimTime => "/games/{id}/claim-time",
+        GameAction::Declare => "/games/{id}/declare/{ply}",
     }
 }
 

@@ -3,10 +3,11 @@
 use self::Access::{Members, Public};
 use self::GameAction::{AcceptDraw, ClaimTime, Declare, MakeMove, OfferDraw, Resign};
 use self::QuestionTopic::{
-    EventGames, EventTable, GameClock, GamePage, GameRecord, GameView, LegalMoves, MyEndedGames,
-    MyEvents, MyGames,
+    EventGames, EventStandings, EventTable, GameClock, GamePage, GameRecord, GameView, LegalMoves,
+    MyEndedGames, MyEvents, MyGames,
 };
-use self::Topic::{Answer, Challenge, MembersPage, OnGame, Question, Withdraw};
+use self::Topic::{Analysis, Answer, Challenge, MembersPage, OnGame, Question, Withdraw};
+use club_rules::GameKind::{self, Draughts, Shogi};
 use http_bodies::Caching::{NoStore, Unspecified};
 use http_bodies::ContentType::{Json, Plain};
 use http_bodies::Method::{Get, Post};
@@ -29,6 +30,8 @@ pub enum QuestionTopic {
     EventTable,
     /// The games of the event `{name}`.
     EventGames,
+    /// The standings of the event `{name}`.
+    EventStandings,
     /// The games and challenges of the member who has the key.
     MyGames,
     /// The ended games of the member who has the key.
@@ -61,6 +64,8 @@ pub enum Topic {
     MembersPage,
     /// The answer to a query, as a body of this content type.
     Question(QuestionTopic, ContentType),
+    /// An analysis by the rules of a game; the body says where it begins, and has the moves to try.
+    Analysis(GameKind),
     /// A command on the game `{id}`.
     OnGame(GameAction),
     /// A new challenge, `{number}`.
@@ -87,14 +92,14 @@ pub struct Route {
     pub method: Method,
     /// Who is served.
     pub access: Access,
-    /// What is served.
+    /// The content that is served.
     pub topic: Topic,
     /// Whether its replies may be cached.
     pub caching: Caching,
 }
 
 /// All routes, each after its path with the parameters in braces.
-pub(crate) const TABLE: [(&str, Method, Access, Topic, Caching); 20] = [
+pub(crate) const TABLE: [(&str, Method, Access, Topic, Caching); 23] = [
     (
         "/games/{id}",
         Get,
@@ -144,6 +149,13 @@ pub(crate) const TABLE: [(&str, Method, Access, Topic, Caching); 20] = [
         Question(EventGames, Json),
         NoStore,
     ),
+    (
+        "/events/{name}/standings",
+        Get,
+        Members,
+        Question(EventStandings, Json),
+        NoStore,
+    ),
     ("/me", Get, Members, Question(MyGames, Json), NoStore),
     (
         "/me/ended",
@@ -159,6 +171,14 @@ pub(crate) const TABLE: [(&str, Method, Access, Topic, Caching); 20] = [
         Question(MyEvents, Json),
         NoStore,
     ),
+    (
+        "/analysis/draughts",
+        Post,
+        Members,
+        Analysis(Draughts),
+        NoStore,
+    ),
+    ("/analysis/shogi", Post, Members, Analysis(Shogi), NoStore),
     (
         "/games/{id}/moves/{ply}",
         Post,

@@ -11,6 +11,7 @@ use Rattle.http_head.specs.declared.refusals.HeadRefusal.{HeadRefusal}
 use Rattle.http_head.specs.declared.refusals.HeadRefusal.TheVariants.{BadHead}
 use Rattle.http_head.specs.Framing.{end_from, scan_start}
 use Rattle.http_head.specs.Head.{ParsedHead, outline_of, outline_from, fields_of, IsHead, IsReadAs}
+use Rattle.http_head.specs.Head.{NamedHost, named_host_from, named_host_of}
 use Rattle.http_head.proofs.HeadLines.{lines_of_head}
 
 abbrev pub Gives : ℕ → List ℕ → Result ParsedHead HeadRefusal → Type 0
@@ -44,3 +45,17 @@ overflows bytes lines few found over h reads =
 pub whole : (bytes : List ℕ) (headers : List HeaderSpan) (r : RequestSpans) (h : RequestHead)
     → IsRequestAt bytes headers r h → r.len ≡ length bytes → ReadsRequest bytes h []
 whole bytes headers r h at e = rw (← drop_all r.len bytes (omega arith)) at.reads
+
+-- ---- the host that a head names
+
+abbrev pub Names : ℕ → List ℕ → Option NamedHost → Type 0
+Names lines bytes named = (read : Option RequestHead) × IsReadAs lines bytes read × (named ≡ named_host_of lines read)
+
+pub names_none : (lines : ℕ) (bytes : List ℕ) → lines ≤ 65 → IsHead bytes None → Names lines bytes None
+names_none lines bytes h none = let e : nat_lt 65 lines ≡ false = search (rules, h) in (None, rw e none, refl)
+
+pub names_host : (lines : ℕ) (bytes : List ℕ) (head : RequestHead) (named : Option NamedHost) → lines ≤ 65
+    → ReadsRequest bytes head [] → named ≡ named_host_from head.target head.minor (fields_of head)
+    → Names lines bytes named
+names_host lines bytes head named h reads e =
+    let f : nat_lt 65 lines ≡ false = search (rules, h) in (Some head, rw f reads, rw f e)

@@ -8,11 +8,11 @@ use Rattle.httparse.proofs.GrammarLemmas.{request_unique}
 use Rattle.http_head.specs.declared.refusals.HeadRefusal.{HeadRefusal}
 use Rattle.http_head.specs.declared.framing.Scan.{Scan}
 use Rattle.http_head.specs.Framing.{end_from, scan_start, head_end, head_limit, past_limit}
-use Rattle.http_head.specs.Head.{ParsedHead, outline_of, IsReadAs, IsReadIf, IsHead, line_limit}
+use Rattle.http_head.specs.Head.{ParsedHead, outline_of, IsReadAs, IsReadIf, IsHead, line_limit, NamedHost}
 use Rattle.http_head.specs.Request.{ParseState, unfinished, body_seen, seen_after, IsHeadRead, Sees}
-use Rattle.http_head.specs.Request.{begin_with_head, asks_head, asks_head_by}
+use Rattle.http_head.specs.Request.{begin_with_head, asks_head, asks_head_by, NamesHost}
 use Rattle.http_head.proofs.FramingLemmas.{end_append, ends}
-use Rattle.http_head.proofs.HeadReading.{Gives}
+use Rattle.http_head.proofs.HeadReading.{Gives, Names}
 
 same_front : (n : ℕ) (bytes : List ℕ) (limit : ℕ) → limit ≡ min (length bytes) n → take limit bytes ≡ take n bytes
 same_front n bytes limit e = let other : limit ≡ min n (length bytes) = omega arith in rw other (take_min n bytes)
@@ -157,6 +157,18 @@ sees_by bytes {n = n} given behind seen e h reads shown is_seen =
     let rest = take_all (length bytes - n) (drop n bytes) (omega (arith, length-drop n bytes)) in
     with_end bytes _ reads.0 seen (end_found bytes e h) reads.1
     (rw (shown, rest) at is_seen ∙ ap (body_seen (drop n bytes)) reads.2)
+
+-- ---- the host that a head names
+
+pub no_host : (bytes : List ℕ) → head_end bytes ≡ None → NamesHost bytes None
+no_host bytes none = record { read = None; is_read = rw none refl; is_named = rw none refl }
+
+pub host_by : (bytes : List ℕ) {limit n lines : ℕ} (named : Option NamedHost) → limit ≡ min (length bytes) 16384
+    → ((more : List ℕ) → end_from scan_start (take limit bytes ++ more) ≡ Some (n, lines))
+    → Names lines (take n bytes) named → NamesHost bytes named
+host_by bytes named e h names =
+    let found = end_found bytes e h in
+    record { read = names.0; is_read = rw found names.1; is_named = rw found names.2 }
 
 -- ---- replies without a body
 

@@ -111,7 +111,13 @@ body_length method (Some n) = if nat_lt body_limit n then Err TooLong else Ok n
 abbrev pub outline_with : List ℕ → List ℕ → Fields → Result ℕ HeadRefusal → Result ParsedHead HeadRefusal
 outline_with method target fields (Err refusal) = Err refusal
 outline_with method target fields (Ok n) =
-    Ok (record { method = method; target = target; key = single_value (field_occurrence (codes "Member-Key") fields); length = n })
+    Ok
+    (record {
+      method = method;
+      target = target;
+      key = single_value (field_occurrence (codes "Member-Key") fields);
+      length = n;
+    })
 
 -- the refusals after that of Content-Length, in their order
 abbrev pub outline_behind : List ℕ → List ℕ → ℕ → Fields → Result (Option ℕ) HeadRefusal → Result ParsedHead HeadRefusal
@@ -132,6 +138,33 @@ abbrev pub outline_of : ℕ → Option RequestHead → Result ParsedHead HeadRef
 outline_of lines None = if nat_lt line_limit lines then Err HeadTooLong else Err BadHead
 outline_of lines (Some h) = if nat_lt line_limit lines then Err HeadTooLong else outline_from h.method h.target h.minor
     (fields_of h)
+
+-- the target of a head and the value of its Host, if the field occurs
+pub record NamedHost : Type 0 where
+  pub target : List ℕ
+  pub host : Option (List ℕ)
+
+-- the target and the value of Host; none if Host is missing or repeated
+abbrev pub named_host_by : List ℕ → ℕ → Occurrence → Option NamedHost
+named_host_by target minor field =
+    if has_good_host minor field then Some (record { target = target; host = single_value field }) else None
+
+-- the same, unless Content-Length is refused before
+abbrev pub named_host_behind : List ℕ → ℕ → Occurrence → Result (Option ℕ) HeadRefusal → Option NamedHost
+named_host_behind target minor field (Err refusal) = None
+named_host_behind target minor field (Ok named) = named_host_by target minor field
+
+-- the same, given the fields of a head
+abbrev pub named_host_from : List ℕ → ℕ → Fields → Option NamedHost
+named_host_from target minor fields =
+    named_host_behind target minor (field_occurrence (codes "Host") fields)
+    (named_length (field_occurrence (codes "Content-Length") fields))
+
+-- the target and the value of Host, if no refusal of the head comes before one of Host's value
+abbrev pub named_host_of : ℕ → Option RequestHead → Option NamedHost
+named_host_of lines None = None
+named_host_of lines (Some h) =
+    if nat_lt line_limit lines then None else named_host_from h.target h.minor (fields_of h)
 
 -- `httparse` reads all the bytes as this head, or reads no head
 abbrev pub IsHead : List ℕ → Option RequestHead → Type 0

@@ -6,7 +6,7 @@ use Rattle.httparse.specs.Grammar.{RequestHead}
 use Rattle.http_head.specs.declared.refusals.HeadRefusal.{HeadRefusal}
 use Rattle.http_head.specs.declared.refusals.HeadRefusal.TheVariants.{HeadTooLong}
 use Rattle.http_head.specs.Framing.{head_end, head_limit, past_limit}
-use Rattle.http_head.specs.Head.{ParsedHead, outline_of, IsReadAs}
+use Rattle.http_head.specs.Head.{ParsedHead, outline_of, IsReadAs, NamedHost, named_host_of}
 
 -- a complete request
 pub record HttpRequest : Type 0 where
@@ -64,3 +64,14 @@ asks_head bytes = asks_head_by bytes (head_end bytes)
 -- the request is complete or refused: no further bytes change that
 abbrev pub IsDecided : List ℕ → Type 0
 IsDecided bytes = (seen : ParseState) × Sees bytes seen × (seen ≡ unfinished → ⊥)
+
+-- the target and the value of Host, if the head is complete and no refusal of it comes before one of Host's value
+abbrev pub named_host_after : Option (ℕ × ℕ) → Option RequestHead → Option NamedHost
+named_host_after None read = None
+named_host_after (Some end) read = named_host_of end.1 read
+
+-- the bytes name this target and this Host
+pub record NamesHost (bytes : List ℕ) (named : Option NamedHost) : Type 0 where
+  pub read : Option RequestHead
+  pub is_read : IsHeadRead bytes (head_end bytes) read
+  pub is_named : named ≡ named_host_after (head_end bytes) read

@@ -10,7 +10,8 @@ ghost use Rattle.http_head.specs.Framing.{scan_start, end_from};
 ghost use Rattle.http_head.specs.Head.{is_name, field_occurrence, is_number, number_of, named_length, has_good_host};
 ghost use Rattle.http_head.specs.Head.{is_absent};
 ghost use Rattle.http_head.specs.Head.{single_value, body_length, outline_from, outline_of, IsReadAs};
-ghost use Rattle.http_head.specs.internal.HeadViews.{occurrence_view, outline_result};
+ghost use Rattle.http_head.specs.Head.{named_host_from, named_host_of};
+ghost use Rattle.http_head.specs.internal.HeadViews.{named_host_view, occurrence_view, outline_result};
 
 use crate::refusals::HeadRefusal;
 use httparse::Status;
@@ -35,6 +36,15 @@ pub struct ParsedHead<'b> {
     pub key: Option<&'b [u8]>,
     /// The length of the body in bytes.
     pub length: usize,
+}
+
+/// The host that a head names.
+#[derive(Clone, Copy)]
+pub struct NamedHost<'b> {
+    /// The request target.
+    pub target: &'b [u8],
+    /// The value of `Host`; `None` in HTTP/1.0 without this field.
+    pub host: Option<&'b [u8]>,
 }
 
 // Whether two field names are equal, ignoring ASCII case.
@@ -226,5 +236,55 @@ pub(crate) fn read_head(head: &[u8], lines: usize) -> Result<ParsedHead<'_>, Hea
         }
         Ok(Status::Partial) => Err(HeadRefusal::BadHead),
         Err(_) => Err(HeadRefusal::BadHead),
+    }
+}
+
+// The target and the value of Host of a parsed head, unless a refusal comes before.
+fn named_host_from<'b>(
+    head: &'b [u8],
+    found: &RequestSpans,
+    spans: &[HeaderSpan],
+) -> Option<NamedHost<'b>>
+    requires target { IsWithin (length head.now) found.now.path }
+    requires fields { All (IsHeaderWithin (length head.now)) spans.now }
+    ensures { option_map named_host_view result ≡ named_host_from (span_bytes head.now found.now.path)
+        found.now.version (map (header_bytes head.now) spans.now) }
+{
+    let host = field(head, spans, b"Host");
+    match named_length(field(head, spans, b"Content-Length")) {
+        Err(_) => None,
+        Ok(_) => {
+            if has_good_host(found.version, host) {
+                Some(NamedHost {
+                    target: found.path.of(head),
+                    host: single_value(host),
+                })
+            } else {
+                None
+            }
+        }
+    }
+}
+
+/// The host that a head names; `None` if the head is refused for something that comes before the value of Host.
+pub(crate) fn read_named_host(head: &[u8], lines: usize) -> Option<NamedHost<'_>>
+    requires { end_from scan_start head.now ≡ Some (length head.now, lines) }
+    ensures { (read : Option RequestHead) × IsReadAs lines head.now read ×
+        (option_map named_host_view result ≡ named_host_of lines read) }
+{
+    if lines > 65 {
+        return None;
+    }
+    let mut spans = [EMPTY_HEADER_SPAN; 64];
+    match parse_request(head, &mut spans) {
+        Ok(Status::Complete(found)) => {
+            if found.len == head.len() {
+                named_host_from(head, &found, &spans[..found.headers])
+            } else {
+                None
+            }
+        }
+        Ok(Status::Partial) => None,
+        Err(_) => None,
     }
 }

@@ -1,13 +1,13 @@
 //! Parsing of requests from any prefix of their bytes.
-ghost use Rattle.std.specs.Prelude.{◌≡◌, Ok, length};
+ghost use Rattle.std.specs.Prelude.{◌≡◌, Ok, length, option_map};
 ghost use Rattle.http_head.specs.Head.{ParsedHead as outline};
-ghost use Rattle.http_head.specs.internal.HeadViews.{outline_view};
+ghost use Rattle.http_head.specs.internal.HeadViews.{named_host_view, outline_view};
 ghost use Rattle.http_head.specs.Request.{Sees, ParseState as seen, body_seen, skip_line_breaks, begin_with_head};
-ghost use Rattle.http_head.specs.Request.{asks_head};
+ghost use Rattle.http_head.specs.Request.{asks_head, NamesHost};
 ghost use Rattle.http_head.specs.internal.RequestViews.{seen_view};
 
 use crate::framing::Scan;
-use crate::head::{ParsedHead, read_head};
+use crate::head::{NamedHost, ParsedHead, read_head, read_named_host};
 use crate::refusals::HeadRefusal;
 
 /// A complete request.
@@ -58,8 +58,8 @@ pub struct Reading<'b> {
     pub asks_head: bool,
 }
 
-// The bytes without CR and LF at the front (RFC 9112, section 2.2).
-fn skip_line_breaks(bytes: &[u8]) -> &[u8]
+/// The bytes without CR and LF at the front (RFC 9112, section 2.2).
+pub fn skip_line_breaks(bytes: &[u8]) -> &[u8]
     ensures { result.now ≡ skip_line_breaks bytes.now }
 {
     for (i, byte) in bytes.iter().enumerate() {
@@ -118,5 +118,17 @@ pub fn read_request(bytes: &[u8]) -> Reading<'_>
                 },
             }
         }
+    }
+}
+
+/// The host that the head of a request names; `None` if the head is incomplete, or is refused for something that comes
+/// before the value of Host.
+pub fn named_host(bytes: &[u8]) -> Option<NamedHost<'_>>
+    ensures { NamesHost bytes.now (option_map named_host_view result) }
+{
+    let most = bytes.len().min(16384);
+    match Scan::start().go_on(&bytes[..most]) {
+        None => None,
+        Some(end) => read_named_host(&bytes[..end.length], end.lines),
     }
 }

@@ -28,7 +28,7 @@ pub fn is_interrupted(error: &Error) -> bool {
     matches!(error.kind(), ErrorKind::Interrupted)
 }
 
-/// Reads, after the bytes in `heard`, until the request is complete or rejected, or the input ends.
+/// Reads, after the bytes received before (`heard`), until the request is complete or rejected, or the input ends.
 ///
 /// # Errors
 ///

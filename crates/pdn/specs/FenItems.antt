@@ -54,14 +54,14 @@ man side = record { side = side; king = false }
 abbrev pub king : Side → DPiece
 king side = record { side = side; king = true }
 
--- a king; `piece_at` is the offset of the item, `before` that of its square
+-- a king; `at` is the offset of the item, `before` that of its square
 abbrev pub king_of : ℕ → ℕ → Side → FrontReading → ItemReading
 king_of at before side (Err bytes) = Err (before + bytes)
 king_of at before side (Ok front) =
     Ok
     (record { item = record { at = at; from = front.square; to = front.square; piece = king side }; rest = front.rest })
 
--- a range of men; `piece_at` is the offset of the item, `before` that of its last square
+-- a range of men; `at` is the offset of the item, `before` that of its last square
 abbrev pub range_of : ℕ → ℕ → Side → ℕ → FrontReading → ItemReading
 range_of at before side from (Err bytes) = Err (before + bytes)
 range_of at before side from (Ok front) =

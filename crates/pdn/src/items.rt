@@ -8,7 +8,7 @@ ghost use Rattle.pdn.specs.FenItems.{king_of, range_of, men_of, read_item};
 use crate::squares_text::{SquareFront, read_square};
 use squares::{DPiece, Dsq, Side};
 
-/// Equal pieces on the squares `from` to `to`; `piece_at` is the offset of the item in the text, in bytes.
+/// Equal pieces on the squares `from` to `to`; `at` is the offset of the item in the text, in bytes.
 #[derive(Clone, Copy, Debug, PartialEq, Eq)]
 pub struct Item {
     pub at: usize,
@@ -124,7 +124,7 @@ fn king(side: Side) -> DPiece
     DPiece { side, king: true }
 }
 
-// Reads the king of an item at the offset `piece_at`; `text` follows the `K`.
+// Reads the king of an item at the offset `at`; `text` follows the `K`.
 fn read_king(total: usize, at: usize, side: Side, text: &[u8]) -> Result<ItemFront<'_>, usize>
     requires { length text.now ≤ total }
     ensures front { IfOk result
@@ -148,7 +148,7 @@ fn read_king(total: usize, at: usize, side: Side, text: &[u8]) -> Result<ItemFro
     }
 }
 
-// Reads the range of men of an item at the offset `piece_at`; `text` follows the hyphen.
+// Reads the range of men of an item at the offset `at`; `text` follows the hyphen.
 fn read_range(
     total: usize,
     at: usize,
@@ -179,7 +179,7 @@ fn read_range(
     }
 }
 
-// Reads a man, or a range of men, of an item at the offset `piece_at`.
+// Reads a man, or a range of men, of an item at the offset `at`.
 fn read_men(total: usize, at: usize, side: Side, text: &[u8]) -> Result<ItemFront<'_>, usize>
     requires { at + length text.now ≤ total }
     ensures front { IfOk result

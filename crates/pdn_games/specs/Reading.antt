@@ -47,7 +47,8 @@ settled (Some claim) by_rule by_tag = if agrees claim by_rule && agrees claim by
 
 -- the score of a game with these tokens and moves, or the fault that its result is missing or wrong
 abbrev pub score_in : List PlacedToken → List DMove → Result Score PdnFault
-score_in tokens ms = settled (score_of_result (result_in tokens)) (score_by_rules (end_of opening ms) (last_position opening ms).turn)
+score_in tokens ms =
+    settled (score_of_result (result_in tokens)) (score_by_rules (end_of opening ms) (last_position opening ms).turn)
     (tag_score (first_tag (codes "Result") tokens))
 
 -- the tokens of a well-formed text

@@ -34,7 +34,7 @@ name_front text =
 abbrev pub quote_step : Bool → ℕ → Option Bool
 quote_step escaped c = if escaped then Some false else if c == 34 then None else Some (c == 92)
 
--- the index of the closing quote, counted from `piece_at`
+-- the index of the closing quote, counted from `at`
 abbrev pub quote_at : ℕ → Bool → List ℕ → Option ℕ
 quote_at at escaped [] = None
 quote_at at escaped (c ∷ rest) = option_map_or (λ next. quote_at (at + 1) next rest) (quote_step escaped c) (Some at)

@@ -1,15 +1,14 @@
 -- Whether the tables of a database can be used as those of a club, even if another program created them by other
 -- statements. Only differences that could change a result count.
-use Rattle.std.specs.Prelude.{◌==◌, ◌&&◌, Bool, List, length, take}
+use Rattle.std.specs.Prelude.{◌==◌, ◌&&◌, Bool, List, length}
 use Rattle.std.specs.List.{list_all, list_any}
 use Rattle.sqlite_schema.specs.declared.schema.Schema.{Schema}
 use Rattle.sqlite_schema.specs.declared.schema.Table.{Table}
 use Rattle.sqlite_schema.specs.Names.{same_name}
-use Rattle.store_tables.specs.Names.{in_order}
-use Rattle.store_tables.specs.Tables.{event_rules, made_as}
+use Rattle.store_tables.specs.Placed.{tables_of}
+use Rattle.store_tables.specs.Tables.{made_as}
 use Rattle.store_tables.specs.declared.names.Table as of_club
 use Rattle.store_tables.specs.declared.names.Version.{Version}
-use Rattle.store_tables.specs.declared.names.Version.TheVariants.{First, Current}
 use Rattle.schema_match.specs.Columns.{key_name, has_columns_as}
 use Rattle.schema_match.specs.Keys.{has_keys_as}
 
@@ -33,11 +32,6 @@ has_table schema ours = list_any (answers_as schema ours) schema.tables
 abbrev pub have_tables : Schema → List of_club.Table → Bool
 have_tables schema tables = list_all (λ table. has_table schema (made_as table 0)) tables
 
--- the tables that both versions have
-abbrev pub have_both : Schema → Bool
-have_both schema = have_tables schema (take 8 in_order)
-
 -- the schema has each table of this version, or an equivalent one; others do not matter
 abbrev pub is_of_club : Version → Schema → Bool
-is_of_club First schema = have_both schema
-is_of_club Current schema = have_both schema && has_table schema (event_rules 0)
+is_of_club version schema = have_tables schema (tables_of version)

@@ -1,10 +1,10 @@
 //! Checks which tables of a club are in a schema, exactly or in an equivalent form.
 
-ghost use Rattle.std.specs.Prelude.{◌≡◌, ◌==◌, ◌&&◌, Ok, IfOk, length};
+ghost use Rattle.std.specs.Prelude.{◌≡◌, ◌==◌, ◌≤◌, ℕ, nat_le, Ok, IfOk, length, take};
 ghost use Rattle.sqlite.specs.Held.{state};
 ghost use Rattle.sqlite.specs.Compile.{table_defined_by};
 ghost use Rattle.sqlite_schema.specs.declared.schema.Table as made;
-ghost use Rattle.store_tables.specs.Tables.{event_rules, made_as};
+ghost use Rattle.store_tables.specs.Tables.{made_as};
 ghost use Rattle.store_tables.specs.declared.names.Version.{Version};
 ghost use Rattle.schema_match.specs.Shapes as spec;
 ghost use Rattle.schema_match.specs.internal.TableVersions.{has_version};
@@ -88,29 +88,30 @@ fn has_club_table(
     has_table_made_by(alloc, schema, table.create())
 }
 
-/// Whether the schema has each of these tables, or an equivalent one.
-fn has_all_tables(
+/// How many of these tables the schema has, or equivalent ones, up to the first that it does not have.
+fn count_tables(
     alloc: Global,
     schema: &Schema,
     tables: &[store_tables::Table],
-) -> Result<bool, AllocError>
-    ensures { IfOk result (λ stand. stand ≡ spec.have_tables schema.now tables.now) }
+) -> Result<usize, AllocError>
+    ensures { IfOk result (λ count. (n : ℕ) → n ≤ length tables.now →
+        nat_le n count ≡ spec.have_tables schema.now (take n tables.now)) }
 {
+    let mut count = 0;
     for table in tables {
         if !has_club_table(alloc, schema, *table)? {
-            return Ok(false);
+            return Ok(count);
         }
+        count += 1;
     }
-    Ok(true)
+    Ok(count)
 }
 
-/// The schema versions of a club that the tables of a database match.
+/// The tables of a club that a database has, exactly or in an equivalent form.
 #[derive(Debug, Clone, Copy, PartialEq, Eq)]
 pub struct Versions {
-    /// Schema 1.
-    pub first: bool,
-    /// Schema 2.
-    pub current: bool,
+    /// How many of `Table::ALL` there are, up to the first that is missing.
+    pub count: usize,
 }
 
 impl Versions {
@@ -118,24 +119,8 @@ impl Versions {
     pub fn has(self, version: Version) -> bool
         ensures { result ≡ has_version self version }
     {
-        match version {
-            Version::First => self.first,
-            Version::Current => self.current,
-        }
+        version.table_count() <= self.count
     }
-}
-
-fn versions_in(alloc: Global, schema: &Schema) -> Result<Versions, AllocError>
-    ensures first { IfOk result (λ found. found.first ≡ spec.have_both schema.now) }
-    ensures current { IfOk result (λ found. found.current ≡
-        (spec.have_both schema.now && spec.has_table schema.now (event_rules 0))) }
-{
-    let first = has_all_tables(alloc, schema, &store_tables::Table::ALL[..8])?;
-    let rules = has_club_table(alloc, schema, store_tables::Table::EventRules)?;
-    Ok(Versions {
-        first,
-        current: first && rules,
-    })
 }
 
 /// Returns the schema versions of a club whose tables are in the database, exactly or in an equivalent form. Foreign
@@ -148,6 +133,6 @@ pub fn versions_of<S: Alter>(alloc: Global, conn: &Connection<S>) -> Result<Vers
     ensures { IfOk result (λ found. (version : Version) →
         has_version found version ≡ spec.is_of_club version (state S.Store conn.now).now.schema) }
 {
-    let schema = conn.schema();
-    versions_in(alloc, schema)
+    let count = count_tables(alloc, conn.schema(), &store_tables::Table::ALL)?;
+    Ok(Versions { count })
 }

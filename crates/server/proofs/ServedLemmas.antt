@@ -12,7 +12,7 @@ use Rattle.control_socket.specs.declared.orders.OrderFault.{OrderFault}
 use Rattle.control_socket.specs.declared.orders.OrderFault.TheVariants.{NotDone, ReplyLost}
 use Rattle.control_socket.specs.Orders.{HasRunOperation}
 use Rattle.server.specs.declared.connections.Served.{Served}
-use Rattle.server.specs.declared.connections.Served.TheVariants.{Request, Order, Dropped}
+use Rattle.server.specs.declared.connections.Served.TheVariants.{Request, Order, Rejected}
 use Rattle.server.specs.declared.serve.Exchange.{Exchange}
 use Rattle.server.specs.Acknowledged.{LeadsTo, LeadTo}
 use Rattle.server.specs.Serving.{IsReplyTo}
@@ -62,7 +62,7 @@ module _ {S : Type 0} (club : Club S) (stands : S → Type 0) (leaves : S → S 
   was_served (Some (Request moment result)) it = (moment, it.0, inl (was_acted moment result it.1))
   was_served (Some (Order moment operation result)) it =
       (moment, it.0, inr (operation, was_run moment operation result it.1))
-  was_served (Some Dropped) stood = (0, search arith, inl ([], inl stood))
+  was_served (Some (Rejected done)) it = (0, search arith, inl ([], inl it.0))
 
 -- ---- the states to which it leads
 
@@ -147,7 +147,7 @@ module _ {S : Type 0} (club : Club S) (stands : S → Type 0) (leaves : S → S 
   some_item s (Order moment operation result) (within, it) =
       let (t, same, holds) = some_order s moment operation result it in
       (t, (within, same), holds)
-  some_item s Dropped stood = (s, refl, settled s stood)
+  some_item s (Rejected done) (stood, it) = (s, (refl, it), settled s stood)
 
   pub some_state : (s : S) (next : Option Served) → IsNextServed club stands leaves s next
       → (t : S) × LeadTo club s (listed next) t × Holds t

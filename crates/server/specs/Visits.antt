@@ -1,14 +1,22 @@
 -- The effect of connections and of control socket orders on a club, and their replies, whatever bytes the clients send.
-use Rattle.std.specs.Prelude.{◌≡◌, ◌⊎◌, ◌≤◌, ◌++◌, ⊤, ℕ, Bool, List, [], ◌∷◌, Option, Some, None, Result, Ok, Err}
+use Rattle.std.specs.Prelude.{◌≡◌, ◌⊎◌, ◌≤◌, ◌++◌, ⊤, ℕ, Bool, true, List, [], ◌∷◌, Option, Some, None, Result, Ok}
+use Rattle.std.specs.Prelude.{Err}
 use Rattle.club_requests.specs.Limits.{last_moment}
 use Rattle.http_desk.specs.declared.faults.DeskFault.{DeskFault}
 use Rattle.http_desk.specs.declared.faults.DeskFault.TheVariants.{Write}
 use Rattle.http_desk.specs.declared.faults.ClubFault.{ClubFault}
+use Rattle.http_desk.specs.declared.faults.ClubFault.TheVariants.{Clock}
+use Rattle.http_desk.specs.Hosts.{is_foreign}
 use Rattle.http_desk.specs.Desk.{next_state, IsShutReply}
 use Rattle.http_desk.specs.Served.{Club}
-use Rattle.http_head.specs.Request.{ParseState, Sees}
+use Rattle.http_bodies.specs.Reply.{refusal_reply}
+use Rattle.http_bodies.specs.declared.refusals.HttpRefusal.TheVariants.{Head}
+use Rattle.http_bodies.specs.declared.reply.Caching.TheVariants.{Unspecified}
+use Rattle.http_head.specs.Head.{NamedHost}
+use Rattle.http_head.specs.Request.{ParseState, Sees, NamesHost, asks_head}
+use Rattle.http_head.specs.declared.refusals.HeadRefusal.TheVariants.{BadHost}
 use Rattle.server.specs.declared.connections.Served.{Served}
-use Rattle.server.specs.declared.connections.Served.TheVariants.{Request, Order, Dropped}
+use Rattle.server.specs.declared.connections.Served.TheVariants.{Request, Order, Rejected}
 use Rattle.server.specs.declared.serve.Exchange.{Exchange}
 use Rattle.server.specs.Serving.{IsReplyTo}
 use Rattle.control_socket.specs.declared.orders.Operation.{Operation}
@@ -51,13 +59,32 @@ IsOrderAnswered club stands leaves s moment operation (Err ReplyLost) = stands (
 IsOrderAnswered club stands leaves s moment operation (Err NotDone) =
     HasRunOperation club stands leaves s moment operation
 
+-- ---- requests that the club does not see
+
+-- these bytes of a request are for a host for which the server does not answer, by some list of names
+abbrev pub IsForeign : List ℕ → Type 0
+IsForeign bytes =
+    (names : List (List ℕ)) × (named : Option NamedHost) × NamesHost bytes named × (is_foreign names named ≡ true)
+
+-- the reply refuses a request for another host
+abbrev pub IsForeignReply : List ℕ → List ℕ → Type 0
+IsForeignReply bytes reply = IsForeign bytes × (reply ≡ refusal_reply (Head BadHost) Unspecified (asks_head bytes))
+
+-- the reply, if there is one, refuses a request for another host, or says that there is no timestamp
+abbrev pub IsRejection : Result Exchange DeskFault → Type 0
+IsRejection (Ok done) = IsForeignReply done.bytes.items done.reply.items
+    ⊎ IsShutReply Clock done.bytes.items done.reply.items
+IsRejection (Err _) = ⊤
+
+-- ---- connections and orders
+
 -- the effect of one connection or order, at a valid timestamp, and its reply
 abbrev pub IsServedBy : {S : Type 0} → Club S → (S → Type 0) → (S → S → Type 0) → S → Served → Type 0
 IsServedBy club stands leaves s (Request moment done) =
     (moment ≤ last_moment) × IsAnswered club stands leaves s moment done
 IsServedBy club stands leaves s (Order moment operation done) =
     (moment ≤ last_moment) × IsOrderAnswered club stands leaves s moment operation done
-IsServedBy club stands leaves s Dropped = stands s
+IsServedBy club stands leaves s (Rejected done) = stands s × IsRejection done
 
 -- the same if there may be none
 abbrev pub IsNextServed : {S : Type 0} → Club S → (S → Type 0) → (S → S → Type 0) → S → Option Served → Type 0
@@ -75,7 +102,7 @@ HasShutReply fault (Err _) = ⊤
 abbrev pub IsShutServed : ClubFault → Served → Type 0
 IsShutServed fault (Request moment done) = HasShutReply fault done
 IsShutServed fault (Order moment operation done) = done ≡ Err NotDone
-IsShutServed fault Dropped = ⊤
+IsShutServed fault (Rejected done) = IsRejection done
 
 -- each of these was served so
 abbrev pub AreShutServed : ClubFault → List Served → Type 0

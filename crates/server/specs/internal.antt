@@ -1,2 +1,3 @@
+pub mod KeyLimit
 pub mod LogLine
 pub mod Outgoing

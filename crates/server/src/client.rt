@@ -104,17 +104,17 @@ pub(crate) struct Client<T> {
 pub(crate) type TcpClient = Client<TcpStream>;
 
 impl<T: Read> Client<T> {
-    /// Reads the available bytes.
+    /// Reads the available bytes, for a server that answers for these hosts.
     ///
     /// # Guarantees
     ///
     /// What is added to the received bytes is what was read, in order.
-    pub(crate) fn receive(&mut self) -> ReadProgress
+    pub(crate) fn receive(&mut self, hosts: &[String]) -> ReadProgress
         ensures { HasReceived (result ≢ progress_is.Failed) self.old.heard.bytes.items self.new.heard.bytes.items
             (T.remaining self.old.stream) (T.remaining self.new.stream) }
     {
         self.is_readable = false;
-        let come = self.heard.take(&mut self.stream);
+        let come = self.heard.take(&mut self.stream, hosts);
         self.has_unread_input = come == ReadProgress::Rejected;
         come
     }
@@ -130,11 +130,15 @@ pub(crate) fn take_out(callers: &mut Vec<TcpClient>, at: usize) -> Option<TcpCli
 }
 
 /// Reads from the client at an index, if it is readable.
-pub(crate) fn receive_at(callers: &mut Vec<TcpClient>, at: usize) -> ReadProgress {
+pub(crate) fn receive_at(
+    callers: &mut Vec<TcpClient>,
+    at: usize,
+    hosts: &[String],
+) -> ReadProgress {
     match callers.get_mut(at) {
         Some(caller) => {
             if caller.is_readable {
-                caller.receive()
+                caller.receive(hosts)
             } else {
                 ReadProgress::Partial
             }

@@ -80,8 +80,8 @@ impl ClientQueues {
     }
 
     /// Reads from the client with an incomplete request at an index, if it is readable.
-    pub(crate) fn receive_at(&mut self, at: usize) -> ReadProgress {
-        receive_at(&mut self.receiving, at)
+    pub(crate) fn receive_at(&mut self, at: usize, hosts: &[String]) -> ReadProgress {
+        receive_at(&mut self.receiving, at, hosts)
     }
 
     /// Removes and returns the client with an incomplete request at an index.

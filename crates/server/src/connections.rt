@@ -18,8 +18,9 @@ pub enum Served {
     Request(Moment, Result<Exchange, DeskFault>),
     /// An order of the officer: whether the club accepted it, or why there is no answer.
     Order(Moment, Operation, Result<bool, OrderFault>),
-    /// A connection that was closed unread, since the system clock failed.
-    Dropped,
+    /// A request that the club did not see, since it is for another host, or there is no timestamp: the exchange, or
+    /// why there is no reply.
+    Rejected(Result<Exchange, DeskFault>),
 }
 
 /// A source of connections and of control socket orders.

@@ -201,7 +201,7 @@ impl<'a> FileHold<'a> {
         should_release(self.has_lease_request(), self.queued_while_opening, ready)
     }
 
-    /// The time left of the serving session. With a control socket the session goes on as long as the socket file
+    /// The time left of the serving session. With a control socket the session continues as long as the socket file
     /// exists.
     pub(crate) fn time_left(&mut self, now: Option<Instant>) -> Duration {
         let Some(now) = now else {

@@ -17,8 +17,12 @@
 //!   order.
 //! - `Responder::reply` (`buffered`), `OutgoingReply::send` (`in_order`, `complete`): a reply is written to memory, and
 //!   the stream gets those bytes, in order and each once.
-//! - `line_of`: a log line is its timestamp, method, path, status and the member's name, or `-`. It is printable
-//!   ASCII, without a key.
+//! - `line_of`: a log line is its timestamp, method, path in the route table, status and the member's name, or `-`; or
+//!   the reason of an end without a request. It is printable ASCII, without a key.
+//! - `Clients::serve` (`acts`, `unavailable`): a request for another host, or without a timestamp, is refused and not
+//!   given to the club.
+//! - `KeyLimit::count_wrong_key` (`reply`, `state`): after 20 wrong keys replies to further ones are a tenth of a
+//!   second apart.
 //! - `Log::write_entry`: a line is appended whole, after the number of lines that were left out, or it is left out and
 //!   counted.
 #![tactic(auto)]
@@ -30,6 +34,7 @@ mod clients;
 mod connections;
 mod deadline;
 mod file_hold;
+mod key_limit;
 mod lingering_close;
 mod listener;
 mod nonblocking_stderr;

@@ -50,6 +50,7 @@ fn connections_within(limit: usize, used: usize) -> usize
     ensures some { 1 ≤ result }
     ensures most { result ≤ MOST_CLIENTS }
     ensures kept { used + KEPT_FILES < limit → result + used + KEPT_FILES ≤ limit }
+    ensures all { used + KEPT_FILES < limit → result < MOST_CLIENTS → limit ≤ result + used + KEPT_FILES }
 {
     limit
         .saturating_sub(used)

@@ -50,7 +50,7 @@ impl<T: Write> OutgoingReply<T> {
         &self.stream
     }
 
-    /// The stream, when nothing more is to be sent.
+    /// The stream, after the reply was sent or the connection dropped.
     pub(crate) fn into_stream(self) -> T
         ensures { result ≡ self.stream }
     {

@@ -14,7 +14,7 @@ use crate::file_hold::{FileHold, LEASE_SECONDS, answer_order};
 use crate::listener::{Accepted, Listener};
 use crate::responder::ServerOptions;
 use control_socket::PendingOrder;
-use http_desk::ClubService;
+use http_desk::{ClubFault, ClubService, UnavailableClub};
 use mio::{Events, Poll};
 use std::alloc::Global;
 use std::io;
@@ -50,7 +50,7 @@ pub struct Server<'a> {
 }
 
 impl<'a> Server<'a> {
-    /// Listens on a port of 127.0.0.1; other machines cannot connect.
+    /// Listens on a port of 127.0.0.1 and, if this machine has IPv6, of `[::1]`; other machines cannot connect.
     ///
     /// # Errors
     ///
@@ -103,8 +103,8 @@ impl<'a> Server<'a> {
         self.hold.close_control();
     }
 
-    /// Leases the released file to the first process that waits for it; `false` if none waits. Clients are received
-    /// until the lease ends, for at most fifteen seconds.
+    /// Leases the released file to the first process that waits for it; `false` if none waits. Until the lease ends,
+    /// for at most fifteen seconds, requests that need the club are told when to try again.
     pub fn release_file(&mut self) -> bool {
         if !self.hold.has_lease_request() {
             return false;
@@ -115,6 +115,23 @@ impl<'a> Server<'a> {
         true
     }
 
+    // Answers the requests that are ready during a lease.
+    fn answer_leased(&mut self) {
+        let mut club = UnavailableClub {
+            fault: ClubFault::Leased,
+        };
+        for _ in 0..MOST_CLIENTS {
+            match self.clients.queues.take_ready() {
+                Some(client) => {
+                    let _served = self
+                        .clients
+                        .serve(self.rt.alloc(), &self.poll, client, &mut club);
+                }
+                None => return,
+            }
+        }
+    }
+
     // Receives clients during a lease.
     fn receive_during_lease(&mut self) {
         let mut left = Duration::from_secs(LEASE_SECONDS);
@@ -123,6 +140,7 @@ impl<'a> Server<'a> {
             if left.is_zero() || self.is_stopped() || !self.hold.has_lease_holder() {
                 return;
             }
+            self.answer_leased();
             let passed = self.poll_once(left);
             left = left.saturating_sub(passed);
         }
@@ -205,10 +223,10 @@ impl<'a> Server<'a> {
         self.receive_orders();
         let passed = self.clients.clock.update();
         self.clients.send_all(&self.poll);
-        self.clients.receive_all(&self.poll);
+        self.clients.receive_all();
         self.accept_pending();
         let has_backlog = self.listener.has_backlog();
-        self.clients.drop_overdue(&self.poll, has_backlog);
+        self.clients.drop_overdue(has_backlog);
         passed
     }
 
@@ -226,7 +244,7 @@ impl<'a> Server<'a> {
     fn receive_orders(&mut self) {
         self.hold.receive(&self.poll, &self.events);
         if self.hold.has_backlog() {
-            let _made = self.clients.make_room(&self.poll);
+            let _made = self.clients.make_room();
         }
     }
 
@@ -244,7 +262,7 @@ impl<'a> Server<'a> {
                 Accepted::Connection(stream) => self.clients.add(&self.poll, stream),
                 Accepted::Nothing => {}
                 Accepted::TooManyFiles => {
-                    if !self.clients.make_room(&self.poll) {
+                    if !self.clients.make_room() {
                         self.pause();
                     }
                     return;

@@ -4,6 +4,7 @@ ghost use Rattle.std.specs.Prelude.{◌≡◌, ◌≢◌, []};
 ghost use Rattle.control_socket.specs.internal.Received.{HasReceived};
 ghost use Rattle.server.specs.declared.request_buffer.ReadProgress.TheVariants as progress_is;
 
+use http_desk::is_foreign;
 use http_head::{ParseState, is_interrupted, read_request};
 use std::alloc::Global;
 use std::io::{ErrorKind, Read};
@@ -54,21 +55,29 @@ impl RequestBuffer {
         self.bytes.is_empty()
     }
 
-    // The progress that the received bytes make.
-    fn progress(&self) -> ReadProgress {
+    /// The received bytes, which stay.
+    pub(crate) fn as_bytes(&self) -> &[u8]
+        ensures { result.now ≡ self.now.bytes.items }
+    {
+        &self.bytes
+    }
+
+    // The progress that the received bytes make; a request for another host than these is rejected.
+    fn progress(&self, hosts: &[String]) -> ReadProgress {
         match read_request(&self.bytes).seen {
+            ParseState::Unfinished if is_foreign(hosts, &self.bytes) => ReadProgress::Rejected,
             ParseState::Unfinished => ReadProgress::Partial,
             ParseState::Whole(_) => ReadProgress::Complete,
             ParseState::Refused(_) => ReadProgress::Rejected,
         }
     }
 
-    /// Reads the available bytes from a non-blocking reader.
+    /// Reads the available bytes from a non-blocking reader, for a server that answers for these hosts.
     ///
     /// # Guarantees
     ///
     /// `received`: what is added to the buffer is what was read, in order; at `Failed` the last bytes may be lost.
-    pub(crate) fn take<R: Read>(&mut self, reader: &mut R) -> ReadProgress
+    pub(crate) fn take<R: Read>(&mut self, reader: &mut R, hosts: &[String]) -> ReadProgress
         ensures received { HasReceived (result ≢ progress_is.Failed) self.old.bytes.items self.new.bytes.items
             (R.remaining reader.old) (R.remaining reader.new) }
     {
@@ -82,7 +91,7 @@ impl RequestBuffer {
                     if self.bytes.extend_from_slice(&piece[..n]).is_err() {
                         return ReadProgress::Failed;
                     }
-                    let come = self.progress();
+                    let come = self.progress(hosts);
                     if come != ReadProgress::Partial {
                         return come;
                     }

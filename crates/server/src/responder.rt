@@ -1,6 +1,13 @@
 //! Replies to clients: the application, the timestamp of a request, and the access log.
 
-ghost use Rattle.std.specs.Prelude.{◌≡◌, ◌++◌, ℕ, List, IfOk};
+ghost use Rattle.std.specs.Prelude.{◌≡◌, ◌++◌, ℕ, List, IfOk, Option, map, string_bytes};
+ghost use Rattle.http_head.specs.Head.{NamedHost};
+ghost use Rattle.http_head.specs.Request.{NamesHost, asks_head};
+ghost use Rattle.http_head.specs.declared.refusals.HeadRefusal.TheVariants.{BadHost};
+ghost use Rattle.http_bodies.specs.Reply.{refusal_reply};
+ghost use Rattle.http_bodies.specs.declared.refusals.HttpRefusal.TheVariants.{Head};
+ghost use Rattle.http_bodies.specs.declared.reply.Caching.TheVariants.{Unspecified};
+ghost use Rattle.http_desk.specs.Hosts.{is_foreign};
 ghost use Rattle.http_desk.specs.declared.faults.ClubFault.{ClubFault};
 ghost use Rattle.server.specs.Visits.{HasActedOn, HasShutReply, IsAnswered};
 
@@ -9,13 +16,14 @@ use crate::nonblocking_stderr::NonBlockingStderr;
 use crate::serve::{Connection, Exchange, serve_one};
 use crate::times::clock;
 use clocks::Moment;
-use http_desk::{ClubService, DeskFault, Routes};
+use control_socket::write_reply;
+use http_desk::{ClubService, DeskFault, Routes, foreign_reply, is_foreign};
 use std::alloc::Global;
 use std::io;
 use std::io::{ErrorKind, Read};
 
 /// The options of a server.
-#[derive(Clone, Copy, Debug)]
+#[derive(Debug, Drop)]
 pub struct ServerOptions {
     /// A fixed timestamp for every request; if `None`, the system clock is read.
     pub now: Option<Moment>,
@@ -23,6 +31,8 @@ pub struct ServerOptions {
     pub is_logged: bool,
     /// The number of connections to accept before the server ends.
     pub count: u64,
+    /// The host names for which the server answers, beside the loopback names and addresses; empty: for all.
+    pub hosts: Vec<String>,
 }
 
 /// Replies to requests, and logs them.
@@ -32,6 +42,8 @@ pub(crate) struct Responder<'a> {
     routes: Routes,
     // A fixed timestamp for every request.
     now: Option<Moment>,
+    // The host names for which it answers; empty: for all.
+    hosts: Vec<String>,
     log: Option<Log<NonBlockingStderr<'a>>>,
 }
 
@@ -54,6 +66,7 @@ impl<'a> Responder<'a> {
             rt,
             routes,
             now: options.now,
+            hosts: options.hosts,
             log,
         })
     }
@@ -61,6 +74,49 @@ impl<'a> Responder<'a> {
     /// The timestamp for a request: the fixed one, or the system clock.
     pub(crate) fn timestamp(&self) -> Option<Moment> {
         self.now.or(clock(self.rt))
+    }
+
+    /// The host names for which the server answers.
+    pub(crate) fn hosts(&self) -> &[String]
+        ensures { result.now ≡ self.entry.now.hosts.items }
+    {
+        &self.hosts
+    }
+
+    /// Whether these bytes of a request are for a host for which the server does not answer.
+    pub(crate) fn is_foreign(&self, bytes: &[u8]) -> bool
+        ensures { (named : Option NamedHost) × NamesHost bytes.now named ×
+            (result ≡ is_foreign (map string_bytes self.entry.now.hosts.items) named) }
+    {
+        is_foreign(&self.hosts, bytes)
+    }
+
+    /// Replies to a request for another host. The reply is in memory, and is not sent yet.
+    ///
+    /// # Guarantees
+    ///
+    /// - `request`, `refused`: the reply refuses the host of these bytes.
+    /// - `buffered`: the buffer gets the bytes of the reply that is returned, and no others.
+    pub(crate) fn refuse_host(
+        &self,
+        alloc: Global,
+        heard: Vec<u8>,
+        writer: &mut Vec<u8>,
+    ) -> Result<Exchange, DeskFault>
+        ensures request { IfOk result (λ done. done.bytes.items ≡ heard.items) }
+        ensures refused { IfOk result (λ done. done.reply.items ≡
+            refusal_reply (Head BadHost) Unspecified (asks_head heard.items)) }
+        ensures buffered { IfOk result (λ done. writer.new.items ≡ writer.old.items ++ done.reply.items) }
+    {
+        let reply = foreign_reply(alloc, &heard)?;
+        match write_reply(writer, &reply) {
+            Ok(()) => Ok(Exchange {
+                bytes: heard,
+                reply,
+                caller: None,
+            }),
+            Err(fault) => Err(fault),
+        }
     }
 
     /// Serves a client: `heard` and what its reader gives. The reply is in memory, and is not sent yet.
@@ -95,7 +151,7 @@ impl<'a> Responder<'a> {
     /// Logs an event, if there is a log.
     pub(crate) fn log(&mut self, alloc: Global, moment: Moment, entry: LogEntry<'_>) {
         if let Some(log) = &mut self.log {
-            log.write_entry(alloc, moment, entry);
+            log.write_entry(alloc, &self.routes, moment, entry);
         }
     }
 }

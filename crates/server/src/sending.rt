@@ -8,14 +8,17 @@ use std::alloc::{AllocError, Global};
 use std::net::TcpStream;
 use std::time::Duration;
 
-/// The time without progress after which a reply is given up, by the poll clock.
+/// The time without progress after which a connection is dropped, by the poll clock.
 pub(crate) const STALLED_SECONDS: u64 = 10;
 
-/// The time after which a reply is given up in any case, by the poll clock.
+/// The time after which a connection is dropped in any case, by the poll clock.
 pub(crate) const SENDING_SECONDS: u64 = 60;
 
-// The most bytes that these replies take in all. For a new one those that made no progress for the longest time are
-// given up. A single reply may be larger.
+/// The most replies that wait to be sent; further ones are not sent.
+pub(crate) const MOST_WAITING: usize = 64;
+
+// The most bytes that these replies take in all. For a new one the connections that made no progress for the longest
+// time are dropped. A single reply may be larger.
 const MOST_BYTES: usize = 64 << 20;
 
 /// A client with the rest of its reply.
@@ -24,9 +27,11 @@ pub(crate) struct SendingClient {
     pub(crate) reply: OutgoingReply<TcpStream>,
     /// Its token in the poll registry.
     pub(crate) token: usize,
-    /// The value of `PollClock::polled` at which it is given up without progress.
+    /// The value of `PollClock::polled` before which nothing is sent.
+    pub(crate) start: Duration,
+    /// The value of `PollClock::polled` at which it is dropped without progress.
     pub(crate) until: Duration,
-    /// The value of `PollClock::polled` at which it is given up in any case.
+    /// The value of `PollClock::polled` at which it is dropped in any case.
     pub(crate) end: Duration,
     /// Whether the poll reported it writable since the last write.
     pub(crate) is_writable: bool,
@@ -84,7 +89,7 @@ impl SendingClients {
         size
     }
 
-    // The index of the client that is given up first.
+    // The index of the next client to drop.
     fn first(&self) -> Option<usize> {
         let mut first = None;
         let mut least = Duration::MAX;
@@ -97,13 +102,37 @@ impl SendingClients {
         first
     }
 
-    /// The value of `PollClock::polled` at which the first client is given up.
+    /// The number of clients whose reply waits at `moment`.
+    pub(crate) fn waiting_count(&self, moment: Duration) -> usize {
+        let mut count: usize = 0;
+        for client in self.clients.iter() {
+            if client.start > moment {
+                count = count.saturating_add(1);
+            }
+        }
+        count
+    }
+
+    /// The value of `PollClock::polled` at which the first of the replies that wait at `moment` may be sent.
+    pub(crate) fn first_start(&self, moment: Duration) -> Option<Duration> {
+        let mut first = None;
+        let mut least = Duration::MAX;
+        for client in self.clients.iter() {
+            if client.start > moment && client.start < least {
+                first = Some(client.start);
+                least = client.start;
+            }
+        }
+        first
+    }
+
+    /// The value of `PollClock::polled` at which the next client is dropped.
     pub(crate) fn first_until(&self) -> Option<Duration> {
         let client = self.clients.get(self.first()?)?;
         Some(client.until)
     }
 
-    /// Closes the client that is given up first, if its time is over at `moment`; whether there was one.
+    /// Drops the next client, if its time is over at `moment`; whether there was one.
     pub(crate) fn drop_first(&mut self, moment: Duration) -> bool {
         let Some(until) = self.first_until() else {
             return false;
@@ -150,11 +179,12 @@ impl SendingClients {
         }
     }
 
-    /// Sends to the client at an index, if it is writable; with progress it is kept until `until`.
-    pub(crate) fn send_at(&mut self, at: usize, until: Duration) -> SendProgress {
+    /// Sends to the client at an index, if it is writable and its reply does not wait at `moment`; with progress it is
+    /// kept until `until`.
+    pub(crate) fn send_at(&mut self, at: usize, moment: Duration, until: Duration) -> SendProgress {
         match self.clients.get_mut(at) {
             Some(client) => {
-                if client.is_writable {
+                if client.is_writable && client.start <= moment {
                     client.send(until)
                 } else {
                     SendProgress::Blocked

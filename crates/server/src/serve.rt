@@ -38,7 +38,7 @@ pub struct Exchange {
 /// Serves one connection at a timestamp: reads until the request is complete, rejected or at its end, executes it,
 /// and writes the reply.
 ///
-/// `heard` holds the bytes that were received before; the connection's reader gives the rest.
+/// `heard` has the bytes that were received before; the connection's reader gives the rest.
 ///
 /// # Errors
 ///

@@ -1,4 +1,4 @@
-//! The system clock.
+//! The system clock, and the timestamp in its place if it fails.
 
 use clocks::Moment;
 use std::time::{SystemTime, UNIX_EPOCH};
@@ -12,5 +12,13 @@ pub fn clock(rt: &HostRuntime) -> Option<Moment> {
     match now.duration_since(UNIX_EPOCH) {
         Ok(since) => Moment::new(since.as_secs()),
         Err(_) => None,
+    }
+}
+
+/// The first timestamp, in place of the system clock's if that fails or is out of range.
+pub(crate) fn first_timestamp() -> Moment {
+    match Moment::new(0) {
+        Some(moment) => moment,
+        None => unreachable!(),
     }
 }

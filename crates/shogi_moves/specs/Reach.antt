@@ -13,7 +13,8 @@ use Rattle.squares.specs.Sides.{other}
 use Rattle.squares.specs.ShogiBoard.{ShogiBoard}
 use Rattle.squares.specs.ShogiGeometry.{file_of, rank_of, shogi_number}
 use Rattle.shogi_moves.specs.declared.heading.MoveDirection.{MoveDirection}
-use Rattle.shogi_moves.specs.declared.heading.MoveDirection.TheVariants.{Forward, ForwardLeft, ForwardRight, Left, Right}
+use Rattle.shogi_moves.specs.declared.heading.MoveDirection.TheVariants.{Forward, ForwardLeft, ForwardRight, Left}
+use Rattle.shogi_moves.specs.declared.heading.MoveDirection.TheVariants.{Right}
 use Rattle.shogi_moves.specs.declared.heading.MoveDirection.TheVariants.{Back, BackLeft, BackRight, JumpLeft, JumpRight}
 
 -- Files count from 1 at the right to 9 at the left, as First sees the board.

@@ -2,7 +2,7 @@
 ghost use Rattle.shogi_repetition.specs.internal.Laws.{EachLineHasAnEnd, NoLineHasTwoEnds, EndsAreComputed};
 ghost use Rattle.shogi_repetition.specs.internal.Tails.{TailsBegin, TailsGoOn, TailsTellEnds};
 
-/// Lemma: each sequence of moves has exactly one result, an end or that the game goes on, and `end_of` computes it.
+/// Lemma: each sequence of moves has exactly one result, an end or that the game continues, and `end_of` computes it.
 pub fn each_line_has_one_end()
     ensures some { EachLineHasAnEnd }
     ensures one { NoLineHasTwoEnds }

@@ -7,7 +7,7 @@
 //!
 //! - `judge` (`played`, `end`, `fault`): returns the end that the rules give, or the fault of the first ply against
 //!   the rules.
-//! - `each_line_has_one_end` (`some`, `one`, `computed`): each sequence of moves has one end, or goes on.
+//! - `each_line_has_one_end` (`some`, `one`, `computed`): each sequence of moves has one end, or continues.
 //! - `Marks::start` (`follows`), `push` (`follows`, `fault`, `kept`), `end`: judged ply by ply, with the same result.
 //!   A refused move changes nothing.
 //! - `tails_tell_ends` (`begin`, `go_on`, `ends`): `Tail` determines the end, with the last position, its repetition

@@ -287,7 +287,7 @@ pub current_taken : (from version : Version) (them : Neighbours) (chapters : Lis
     → (version ≡ Current) × IsHistory from Current them chapters s
 current_taken from First them chapters s taken at =
     let first = subst (HasTablesOf First) (sym at.exactly.exactly.now.schema) at.exactly.before.tables in
-    absurd (versions_apart s.now.schema first (taken (inl first)))
+    absurd (versions_apart s.now.schema first (taken (First, first)))
 current_taken from Current them chapters s taken at = (refl, at)
 
 -- what keeps the tables keeps where they stand
@@ -362,7 +362,7 @@ module _ (s : State) (opens : Opens s) (live : IsLive s)
 pub holds_beside : (them : Neighbours) (content : Content) (s : State) → HoldsClubAmong them content s
     → HoldsRows Current content s.now
 holds_beside them content s k = record {
-  schema = subst (HasTablesOf Current) (sym k.exactly.now.schema) k.clear.club;
+  schema = subst (HasTablesOf Current) (sym k.exactly.now.schema) (k.clear.club, tt);
   sound = k.exactly.now.sound;
   tables = club_held them content s.now k.clear k.exactly.now;
 }

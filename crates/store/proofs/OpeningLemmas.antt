@@ -1,5 +1,6 @@
 -- The rows of a club that was just made are the tables of the machine's opening state; and which tables were taken.
-use Rattle.std.proofs.Common.{◌≡◌, ◌∙◌, ℕ, ◌+◌, Bool, true, false, List, [], ◌∷◌, inl, inr, refl, sym, true≢false}
+use Rattle.std.proofs.Common.{◌≡◌, ◌∙◌, ℕ, ◌+◌, Bool, true, false, List, [], ◌∷◌, ◌++◌, inl, inr, refl, sym}
+use Rattle.std.proofs.Common.{true≢false}
 use Rattle.std.proofs.lemmas.Bool.{and_parts, cases_Bool, or_parts}
 use Rattle.std.specs.List.{list_any, position_from}
 use Rattle.std.specs.Prelude.{if◌then◌else◌, ◌==◌, is_some}
@@ -7,17 +8,18 @@ use Rattle.sqlite.specs.Order.{Row}
 use Rattle.sqlite.specs.Schema.{Schema}
 use Rattle.sqlite.specs.Table.{Table}
 use Rattle.club_core.specs.State.{opening_state}
-use Rattle.store_tables.specs.Placed.{HasClubTables, HasTablesOf}
+use Rattle.store_tables.specs.Placed.{HasClubTables, HasTablesOf, tables_of}
 use Rattle.store_tables.specs.Names.{table_name}
+use Rattle.store_tables.specs.declared.names.Table as of_club
 use Rattle.store_tables.specs.declared.names.Table.TheVariants.{EventRules}
 use Rattle.store_tables.specs.declared.names.Version.TheVariants.{First, Current}
 use Rattle.sqlite_catalog.proofs.SoundLemmas.{lowered}
 use Rattle.sqlite_schema.specs.Names.{same_name}
-use Rattle.schema_match.specs.Shapes.{answers_as, is_of_club}
+use Rattle.schema_match.specs.Shapes.{answers_as, has_table, have_tables, is_of_club}
 use Rattle.club_rows.specs.Club.{tables}
 use Rattle.store_tables.specs.Contents.{Content}
 use Rattle.store_tables.specs.internal.Contents.{opening}
-use Rattle.store_tables.specs.Tables.{event_rules}
+use Rattle.store_tables.specs.Tables.{event_rules, made_as}
 
 skipped : (test : Bool) {rows : List Row} → rows ≡ [] → (if test then [] else rows) ≡ []
 skipped true none = refl
@@ -56,15 +58,26 @@ answers_named schema (t ∷ listed) n answers = elim (cases_Bool (same_name t.na
       ]
 ]
 
+-- The last of these tables has one that answers as it.
+last_has : (schema : Schema) (tables : List of_club.Table) (last : of_club.Table)
+    → have_tables schema (tables ++ last ∷ []) ≡ true → has_table schema (made_as last 0) ≡ true
+last_has schema [] last all = (and_parts (has_table schema (made_as last 0)) true all).0
+last_has schema (t ∷ tables) last all =
+    last_has schema tables last
+    (and_parts (has_table schema (made_as t 0)) (have_tables schema (tables ++ last ∷ [])) all).1
+
+last_of : (schema : Schema) → is_of_club Current schema ≡ true → has_table schema (event_rules 0) ≡ true
+last_of schema shape = last_has schema (tables_of First) EventRules shape
+
 -- Tables of schema 1 do not answer as those of schema 2, since the name of the last is free.
 pub first_answers : (schema : Schema) → HasTablesOf First schema → is_of_club Current schema ≡ true → ⊥
 first_answers schema first shape =
     true≢false
-    (sym (answers_named schema schema.tables 0 (and_parts _ _ shape).1)
-    ∙ (or_parts _ _ (or_parts _ _ first.1).0).0)
+    (sym (answers_named schema schema.tables 0 (last_of schema shape))
+    ∙ (or_parts _ _ (or_parts _ _ first.1.0).0).0)
 
 -- A club's tables that answer as those of schema 2 are these.
 pub current_by_shape : (schema : Schema) → is_of_club Current schema ≡ true → HasClubTables schema
     → HasTablesOf Current schema
-current_by_shape schema shape (inl first) = absurd (first_answers schema first shape)
-current_by_shape schema shape (inr current) = current
+current_by_shape schema shape (First, first) = absurd (first_answers schema first shape)
+current_by_shape schema shape (Current, current) = current

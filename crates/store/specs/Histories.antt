@@ -36,7 +36,8 @@ pub record TakesEffect (session : Session) (k : ℕ) : Type 0 where
   pub whole : session.is_whole ≡ true → k ≡ session.returned
 
 -- the state after the first k accepted requests, which the program of this schema executed
-pub record SessionReaches (version : Version) (before : ClubState) (session : Session) (after : ClubState) : Type 0 where
+pub record SessionReaches (version : Version) (before : ClubState) (session : Session)
+    (after : ClubState) : Type 0 where
   pub k : ℕ
   pub effect : TakesEffect session k
   pub is : after ≡ fold_in version before (take k (accepted_in version before session.requests))

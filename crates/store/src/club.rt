@@ -165,7 +165,7 @@ pub fn adopt<S: Alter>(alloc: Global, conn: Connection<S>) -> Result<Club<S>, Un
     ensures idle { IfErr result (λ u. u.conn.in_transaction ≡ false) }
     ensures reason_is_right { IfErr result (λ u. HasCleanDisk (state S.Store u.conn) →
         HasClubTables (state S.Store conn).now.schema → IsRightFault Current (state S.Store conn).now u.fault) }
-    ensures possible_faults { IfErr result (λ u. HasCleanDisk (state S.Store u.conn) →
+    ensures first_damaged { IfErr result (λ u. HasCleanDisk (state S.Store u.conn) →
         HasClubTables (state S.Store conn).now.schema → NamesFirstDamaged (state S.Store conn).now u.fault) }
     ensures older { IfOk result (λ club. HasCleanDisk (state S.Store club.connection) → (them : _) (s : _) →
         IsFirstClub s → ¬ IsFirstBeside them (first_tables s) (state S.Store conn)) }

@@ -10,7 +10,7 @@
 //!   database is unchanged.
 //! - `adopt` (`found`, `held`, `kept`): an accepted database holds exactly a legal club, and opening changes nothing
 //!   that was committed.
-//! - `adopt` (`reason_is_right`, `possible_faults`): the reason of a refusal is true. 72 names the first wrong table;
+//! - `adopt` (`reason_is_right`, `first_damaged`): the reason of a refusal is true. 72 names the first wrong table;
 //!   71 means another schema number; 70 means other tables.
 //! - `adopt` (`accepts_sound`, `first`): a legal club meets 73 and 75 only; one of schema 1 is refused by its number.
 //! - `Club::apply` (`answer`, `step`, `fault`, `after_crash`): the answer is the state machine's, and the tables are
@@ -19,7 +19,7 @@
 //!   request that is not accepted changes nothing.
 //! - `requests_keep_clubs`: a request leaves a legal club legal.
 //! - `Club::ask` (`shown`, `begun`, `output`): a query is answered as `club_answers` says. After a failed writer the
-//!   club goes on.
+//!   club stays open.
 //! - `Club::member_by_key` (`held`): the name of the member who has a key.
 //! - `Club::run` (`outcomes`, `stored`, `left`): requests in turn have the outcomes of the state machine. After a
 //!   fault, a crash leaves the tables after the answered requests or after one more.

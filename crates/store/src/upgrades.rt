@@ -88,7 +88,7 @@ pub fn upgrade<S: Alter>(
         (u.fault ≡ OpenFault.Store) ⊎ (u.fault ≡ OpenFault.Memory)) }
     ensures reason_is_right { IfErr result (λ u. HasCleanDisk (state S.Store u.conn) →
         HasClubTables (state S.Store conn).now.schema → IsRightFault First (state S.Store conn).now u.fault) }
-    ensures possible_faults { IfErr result (λ u. HasCleanDisk (state S.Store u.conn) →
+    ensures first_damaged { IfErr result (λ u. HasCleanDisk (state S.Store u.conn) →
         HasClubTables (state S.Store conn).now.schema → NamesFirstDamaged (state S.Store conn).now u.fault) }
     ensures history { IfOk result (λ done. HasCleanDisk (state S.Store done.0) → Opens (state S.Store conn) →
         IsLive (state S.Store conn) → (from version : _) (them : _) (chapters : _) →

@@ -17,7 +17,7 @@ use Rattle.sqlite.specs.State.{FailsToQuery, CommitsShowing}
 use Rattle.sqlite.proofs.Callers.{IsPlain, reads_as}
 use Rattle.store_tables.specs.Over.{HasRows}
 use Rattle.store_tables.specs.Placed.{HasTableAt, club_trees}
-use Rattle.store_tables.specs.internal.Placed.{AsksAnywhere}
+use Rattle.store_tables.specs.internal.Placed.{AsksAnywhere, LooksUpAnywhere}
 use Rattle.store_tables.specs.Changes.{HaveSame}
 use Rattle.store_tables.specs.Content.{Keeps, cells}
 use Rattle.store_tables.specs.Contents.{Content, Stores}
@@ -31,7 +31,7 @@ use Rattle.store_tables.proofs.Proved.{in_order as in_order_by}
 use Rattle.store_tables.proofs.Proved.{places_rise, same_length, got, alone_takes, in_all, rows_standing, rows_stored}
 use Rattle.store_tables.proofs.Proved.{cells_are, keeps_moved, told_here, tree_is, trees_here}
 use Rattle.store_tables.specs.Tables.{club_schema, made_as, standing}
-use Rattle.store_tables.specs.internal.Texts.{all_text, ids_text, by_first_text, question_text}
+use Rattle.store_tables.specs.internal.Texts.{all_text, ids_text, by_column_text, by_first_text, question_text}
 use Rattle.store_tables.specs.Names.{in_order, tree_of}
 use Rattle.store_tables.specs.declared.names.Table as of_club
 use Rattle.store_tables.specs.declared.names.Table.TheVariants.{Meta}
@@ -154,6 +154,35 @@ module _ {X : Type 0} {table : of_club.Table} {key : List ℕ} {wanted params gi
       let stands = (rows_standing content old k table).0 in
       (found_here table content old new k stands.place key wanted params given _ text (λ x y. Equal)
       (asks k.0 stands).finds (asked stands.tree) same survives clean (items x) shown).0) ok
+
+-- ---- a question for the rows that have the wanted value in a column
+
+module _ {X : Type 0} {table : of_club.Table} {width at : ℕ} {wanted params given : Row}
+    (looks_up : LooksUpAnywhere table width at wanted params) (same : given ≡ params) (old new : State)
+    (items : X → List Row) (r : Result X Error) where
+  abbrev lookup_text : List ℕ
+  lookup_text = by_column_text (standing table) at
+
+  looked_up : (tree : ℕ) → lookup_text ≡ by_column_text (made_as table tree) at
+  looked_up tree = ap (λ t. by_column_text t at) (same_but_tree table tree)
+
+  pub lookup_reads : (old.in_transaction ≡ false → new.in_transaction ≡ false)
+      → Survives old new (CommitsShowing lookup_text given old)
+      → (HasCleanDisk new → IfOk r (λ x. Shown lookup_text given old new (items x)))
+      → (HasCleanDisk new → IfErr r (FailsToQuery lookup_text given old new)) → Reads (is_ok r) old new
+  lookup_reads =
+      let alone = standing_alone table in
+      select_reads (looks_up club_schema alone).is_select lookup_text (looked_up alone.tree) given old new items r
+
+  pub lookup_rows : Survives old new (CommitsShowing lookup_text given old) → HasCleanDisk new
+      → IfOk r (λ x. Shown lookup_text given old new (items x))
+      → IfOk r (λ x. (content : Content) → HasRows content old
+      → AreThose (at ∷ []) wanted (content (standing table).tree) (items x) × IsSorted (by_columns width) (items x))
+  lookup_rows survives clean ok =
+      IfOk-weaker r _ _ (λ x shown content k.
+      let stands = (rows_standing content old k table).0 in
+      found_here table content old new k stands.place (at ∷ []) wanted params given _ lookup_text (by_columns width)
+      (looks_up k.0 stands).finds (looked_up stands.tree) same survives clean (items x) shown) ok
 
 -- a call that failed for another cause than the types of its rows
 pub failed_read : (e : ReadFault) (old new : State) → e ≢ WrongType → Reads false old new

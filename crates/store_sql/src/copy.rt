@@ -47,7 +47,7 @@ pub fn copy_tables<S: Alter, T: Alter>(
 ) -> Result<(), CopyFault>
     requires { copy.old.in_transaction ≡ false }
     ensures reads { Reads (is_ok result) (state S.Store club.old) (state S.Store club.new) }
-    ensures stays_open { HasCleanDisk (state S.Store club.new) → result ≡ Err CopyFault.Copy →
+    ensures unchanged { HasCleanDisk (state S.Store club.new) → result ≡ Err CopyFault.Copy →
         KeepsContent (state S.Store club.old) (state S.Store club.new) }
     ensures idle { copy.new.in_transaction ≡ false }
     ensures clean { doubt (state T.Store copy.old).is_clean ≤ doubt (state T.Store copy.new).is_clean }

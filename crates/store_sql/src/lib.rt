@@ -5,7 +5,8 @@
 //! # Guarantees
 //!
 //! - `read_all` (`reads`, `rows`), `list` (`reads`, `rows`), `find_by_first` (`reads`, `rows`), `find` (`reads`,
-//!   `rows`), `count` (`reads`, `count`): the rows are exactly those of the table, and reading changes nothing.
+//!   `rows`), `find_by_column` (`reads`, `rows`), `count` (`reads`, `count`): the rows are exactly those of the table,
+//!   and reading changes nothing.
 //! - `commit_changes` (`stored`, `fault`, `survives`): changed rows are upserted in one transaction with one commit.
 //!   Done, the tables have these rows; failed, a crash leaves the tables before or after.
 //! - `create_tables` (`stored`, `fault`, `behind`, `behind_fault`, `stands`): the tables are made, in an empty
@@ -23,6 +24,7 @@ mod copy_fault;
 mod creation;
 mod fault;
 mod keys;
+mod lookups;
 mod make;
 mod migration;
 mod read;
@@ -40,6 +42,7 @@ pub use keys::{
     ChallengeNumber, EventName, GameKey, MemberKey, MemberName, MovePly, ScoreKey, SeenPosition,
     UniqueKey, find,
 };
+pub use lookups::{ChallengesTo, ColumnValue, find_by_column};
 pub use make::create_tables;
 pub use migration::{has_event_rules, migrate};
 pub use read::{

@@ -10,6 +10,7 @@ pub mod OrderLemmas
 pub mod OverLemmas
 pub mod PlacedCreated
 pub mod PlacedCreates
+pub mod PlacedLookups
 pub mod PlacedMakes
 pub mod PlacedMissing
 pub mod PlacedOver

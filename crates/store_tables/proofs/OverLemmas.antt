@@ -1,7 +1,7 @@
 -- A club among its neighbours: what of it is the club's, what stays, and a club alone.
 use Rattle.std.proofs.lemmas.Bool.{and_parts, not-true}
 use Rattle.std.proofs.Common.{true, Bool, not, ◌&&◌, ◌≡◌, ℕ, false, List, [], ◌∷◌, Option, Some, None, refl, ap, sym}
-use Rattle.std.proofs.Common.{subst, ◌∙◌, inl, inr, map, arith, nat_lt, ◌^◌}
+use Rattle.std.proofs.Common.{subst, ◌∙◌, inl, inr, map, arith, nat_lt, ◌^◌, ◌≤◌, zero, suc, take}
 use Rattle.std.proofs.lemmas.Option.{same_Some}
 use Rattle.std.specs.List.{AllByRecursion}
 use Rattle.store_tables.specs.Sql.{Database, Has, Row, State, Schema, Table, Trees}
@@ -16,7 +16,7 @@ use Rattle.store_tables.specs.Content.{AreApart, Keeps, cells}
 use Rattle.store_tables.specs.Contents as of_schema
 use Rattle.store_tables.specs.Contents.{AreStored, Content, Stores, nothing}
 use Rattle.store_tables.specs.Club.{IsExactly, Leaves}
-use Rattle.store_tables.specs.Names.{in_order, table_name, tree_of}
+use Rattle.store_tables.specs.Names.{in_order, table_count, table_name, tree_of}
 use Rattle.store_tables.specs.Over.{HasRows, HoldsClubAmong, IsFirstBeside, IsUpgraded}
 use Rattle.store_tables.specs.internal.Over.{HoldsBeside, HoldsFirst}
 use Rattle.store_tables.specs.Over.{LeavesBeside, LeavesFirst, Neighbours, alone, over}
@@ -24,7 +24,8 @@ use Rattle.store_tables.specs.Placed.{HasTables, HasTablesOf, HasTableAt, TakesC
 use Rattle.store_tables.specs.Placed.{tree_in}
 use Rattle.store_tables.specs.Reading.{KeepsContent}
 use Rattle.store_tables.specs.Room.{AreUnused, HasRoom, IsWithoutClub, LeavesNoClub}
-use Rattle.store_tables.specs.Tables.{club_schema, first_schema, made_as, schema_after, schema_of, standing}
+use Rattle.store_tables.specs.Tables.{club_schema, made_as, schema_after, schema_of, standing}
+use Rattle.store_tables.specs.internal.Tables.{first_schema}
 use Rattle.store_tables.specs.declared.names.Table as of_club
 use Rattle.store_tables.specs.declared.names.Table.TheVariants.{EventRules, Meta}
 use Rattle.store_tables.specs.declared.names.Version.{Version}
@@ -34,7 +35,7 @@ use Rattle.store_tables.proofs.SameLemmas.{exactly_on, exactly_same, leaves_on, 
 use Rattle.store_tables.proofs.PlacedCreates.{is_free}
 use Rattle.store_tables.proofs.PlacedMakes.{unused_parts}
 use Rattle.store_tables.proofs.PlacedSteps.{LeavesRoom}
-use Rattle.store_tables.proofs.PlacedOver.{all_stand, last_missing}
+use Rattle.store_tables.proofs.PlacedOver.{all_stand, stand_or_not}
 use Rattle.store_tables.proofs.PlacedSelects.{tree_is}
 use Rattle.store_tables.proofs.PlacedTaken.{Taken, all_taken, made_takes_club}
 use Rattle.store_tables.proofs.PlacedTrees.{StandsOrNot, by_club_at, in_all, one_or_none, over_at, over_club, over_past}
@@ -196,7 +197,7 @@ pub first_held : (them : Neighbours) (content : Content) (db : Database) → Hol
 first_held them content db k =
     subst (λ s. AreStored first_schema (by_club s db.trees) content) (sym k.holds.schema)
     (over_stored k.schema db.trees content them.rows k.holds.tables (tables_of First) k.before.tables.0
-    (last_missing k.schema k.before.tables))
+    (stand_or_not First k.schema k.before.tables))
 
 -- the rows of a table of the club, where it stands
 pub rows_standing : (content : Content) (s : State) (k : HasRows content s) (table : of_club.Table)
@@ -217,16 +218,29 @@ rows_stored content s k =
     (λ table. (stands : HasTableAt schema table) → whole stands.tree ≡ content (tree_of table))
     (λ table is stands. sym (by_club_at schema whole table stands) ∙ is) in_order are))
 
--- ---- the two versions
+-- ---- the versions
 
-pub first_of_current : (schema : Schema) → HasTables Current schema → HasTables First schema
-first_of_current schema (a, (b, (c, (d, (e, (f, (g, (h, rest)))))))) = (a, (b, (c, (d, (e, (f, (g, (h, tt))))))))
+fewer : {A : Type 0} (P : A → Type 0) (xs : List A) (m n : ℕ) → m ≤ n → AllByRecursion P (take n xs)
+    → AllByRecursion P (take m xs)
+fewer P xs zero n less all = tt
+fewer P [] (suc m) n less all = tt
+fewer P (x ∷ xs) (suc m) zero less all = absurd (omega (arith, less))
+fewer P (x ∷ xs) (suc m) (suc n) less all = (all.0, fewer P xs m n (omega (arith, less)) all.1)
+
+fewest : (version : Version) → table_count First ≤ table_count version
+fewest First = omega arith
+fewest Current = omega arith
+
+-- each version has the tables of the first
+pub has_first_tables : (version : Version) (schema : Schema) → HasTables version schema → HasTables First schema
+has_first_tables version schema =
+    fewer (HasTableAt schema) in_order (table_count First) (table_count version) (fewest version)
 
 -- A schema has the tables of one version alone.
 pub versions_apart : (schema : Schema) → HasTablesOf First schema → HasTablesOf Current schema → ⊥
 versions_apart schema first current =
-    let stands = all_has (HasTableAt schema) in_order EventRules current (in_all EventRules) in
-    let missing = (is_free schema (table_name EventRules) first.1).table in
+    let stands = all_has (HasTableAt schema) in_order EventRules current.0 (in_all EventRules) in
+    let missing = (is_free schema (table_name EventRules) first.1.0).table in
     let is : ◌≡◌ {A = Option ℕ} (Some stands.place) None = sym stands.named ∙ missing in
     absurd (cc)
 
@@ -277,12 +291,12 @@ unused_first = refl
 
 -- A club that stands alone has the tables of its version.
 pub tables_alone : (version : Version) → HasTablesOf version (schema_of version)
-tables_alone First = (first_stands, unused_first)
-tables_alone Current = alone_takes.club
+tables_alone First = (first_stands, (unused_first, tt))
+tables_alone Current = (alone_takes.club, tt)
 
 pub upgraded_alone : IsUpgraded first_schema alone
 upgraded_alone = record {
-  tables = (first_stands, unused_first);
+  tables = (first_stands, (unused_first, tt));
   clear = alone_takes;
   is = refl;
   counted = refl;
@@ -291,12 +305,10 @@ upgraded_alone = record {
 }
 
 stand_alone : (version : Version) → HasTables version (schema_of version)
-stand_alone First = first_stands
-stand_alone Current = alone_takes.club
+stand_alone version = (tables_alone version).0
 
 or_not_alone : (version : Version) → AllByRecursion (StandsOrNot (schema_of version)) in_order
-or_not_alone First = last_missing first_schema (first_stands, unused_first)
-or_not_alone Current = all_stand club_schema alone_takes.club
+or_not_alone version = stand_or_not version (schema_of version) (tables_alone version)
 
 -- Its tables stand where the club gives them their trees.
 trees_alone : (version : Version)

@@ -2,6 +2,7 @@
 use Rattle.std.proofs.Common.{◌≡◌, ℕ, ◌==◌, true, false, List, [], ◌∷◌, ◌++◌, None, Ok, refl, sym, ap, subst, subst₂}
 use Rattle.std.proofs.Common.{◌∙◌, inl, inr, ◌<◌, arith}
 use Rattle.std.proofs.lemmas.Grind.{common_steps}
+use Rattle.std.proofs.lemmas.List.{take-append-drop}
 use Rattle.std.specs.List.{AllByRecursion}
 use Rattle.sqlite.specs.Change.{created, next_tree}
 use Rattle.sqlite.specs.Does.{lacks_sequence}
@@ -9,21 +10,24 @@ use Rattle.store_tables.specs.Sql.{Database, Row, Schema, State, Has}
 use Rattle.sqlite.specs.State.{ExecutesInside}
 use Rattle.sqlite_rules.proofs.ListLemmas.{all_from, all_has, has_either, has_got}
 use Rattle.sqlite_catalog.proofs.StepLemmas.{table_below}
+use Rattle.sqlite_catalog.specs.Change.{is_used}
 use Rattle.sqlite_catalog.specs.Listing.{IsSound}
 use Rattle.sqlite_schema.specs.Names.{table_named}
 use Rattle.store_tables.specs.Content.{Keeps}
 use Rattle.store_tables.specs.Contents.{Content, Holds, Stores, nothing}
 use Rattle.store_tables.specs.internal.Contents.{Ran, opening_meta, put_each, put_in}
-use Rattle.store_tables.specs.Names.{in_order, table_name, tree_of}
+use Rattle.store_tables.specs.Names.{in_order, table_count, table_name, tree_of}
 use Rattle.store_tables.specs.Over.{IsUpgraded, Neighbours, is_tree, over}
 use Rattle.store_tables.specs.internal.Over.{HoldsBeside, HoldsFirst, StepsBeside}
-use Rattle.store_tables.specs.Placed.{EachStanding, HasTables, HasTablesOf, HasTableAt, TakesClub, tables_of, tree_in}
+use Rattle.store_tables.specs.Placed.{EachStanding, HasTables, HasTablesOf, HasTableAt, TakesClub, later_tables}
+use Rattle.store_tables.specs.Placed.{tables_of, tree_in}
 use Rattle.store_tables.specs.Room.{HasRoom}
 use Rattle.store_tables.specs.internal.Room.{Fills, Makes}
 use Rattle.store_tables.specs.Tables.{made_as, standing}
 use Rattle.store_tables.specs.internal.Texts.{create_of, put_text}
 use Rattle.store_tables.specs.declared.names.Table as of_club
 use Rattle.store_tables.specs.declared.names.Table.TheVariants.{EventRules, Meta}
+use Rattle.store_tables.specs.declared.names.Version.{Version}
 use Rattle.store_tables.specs.declared.names.Version.TheVariants.{First, Current}
 use Rattle.store_tables.proofs.PlacedCreated.{stands_grown, stands_on}
 use Rattle.sqlite_trees.proofs.ListLemmas.{all-append, all_weaker}
@@ -44,12 +48,16 @@ use Rattle.store_tables.proofs.StepLemmas.{put_each-push}
 pub all_stand : (schema : Schema) → HasTables Current schema → AllByRecursion (StandsOrNot schema) in_order
 all_stand schema = all_weaker (HasTableAt schema) (StandsOrNot schema) (λ table stands. inl stands) in_order
 
--- Of schema 1 the last does not.
-pub last_missing : (schema : Schema) → HasTablesOf First schema → AllByRecursion (StandsOrNot schema) in_order
-last_missing schema (first, unused) =
-    all-append (StandsOrNot schema) (tables_of First) (EventRules ∷ [])
-    (all_weaker (HasTableAt schema) (StandsOrNot schema) (λ table stands. inl stands) (tables_of First) first)
-    (inr (is_free schema (table_name EventRules) unused).table, tt)
+-- Those of later versions do not.
+pub stand_or_not : (version : Version) (schema : Schema) → HasTablesOf version schema
+    → AllByRecursion (StandsOrNot schema) in_order
+stand_or_not version schema (club, unused) =
+    let later = later_tables version in
+    subst (AllByRecursion (StandsOrNot schema)) (take-append-drop (table_count version) in_order)
+    (all-append (StandsOrNot schema) (tables_of version) later
+    (all_weaker (HasTableAt schema) (StandsOrNot schema) (λ table stands. inl stands) (tables_of version) club)
+    (all_weaker (λ table. is_used schema (table_name table) ≡ false) (StandsOrNot schema)
+    (λ table free. inr (is_free schema (table_name table) free).table) later unused))
 
 past_tree : (tree next : ℕ) → tree < next → (next == tree) ≡ false
 past_tree tree next less = grind (arith, common_steps, less)
@@ -210,7 +218,7 @@ module _ (schema : Schema) (them : Neighbours) (before : IsUpgraded schema them)
   after = created schema (made_as EventRules 0)
 
   free : table_named schema (table_name EventRules) ≡ None
-  free = (is_free schema (table_name EventRules) before.tables.1).table
+  free = (is_free schema (table_name EventRules) before.tables.1.0).table
 
   -- A tree that no table of the club has, has the rows of the others.
   past_at : (n : ℕ) (table : of_club.Table) → ((s : HasTableAt schema table) → (n == s.tree) ≡ false)
@@ -224,7 +232,7 @@ module _ (schema : Schema) (them : Neighbours) (before : IsUpgraded schema them)
       over_past schema content them.rows n
       (all_from (λ table. is_tree n (tree_in schema table) ≡ false) in_order (λ table has.
       past_at n table (other table has)
-      (all_has (StandsOrNot schema) in_order table (last_missing schema before.tables) has)))
+      (all_has (StandsOrNot schema) in_order table (stand_or_not First schema before.tables) has)))
 
   bare_next : whole next ≡ []
   bare_next = outside next (λ table has s. past_tree s.tree next (below schema table s)) ∙ before.bare
@@ -236,7 +244,7 @@ module _ (schema : Schema) (them : Neighbours) (before : IsUpgraded schema them)
   had table has s =
       let was = all_has (HasTableAt schema) (tables_of First) table before.tables.0 has in
       ap whole (one_tree after table s (stands_on schema (made_as EventRules 0) table was))
-      ∙ over_at schema (last_missing schema before.tables) content them.rows table was
+      ∙ over_at schema (stand_or_not First schema before.tables) content them.rows table was
 
   new_one : (s : HasTableAt after EventRules) → whole s.tree ≡ content (tree_of EventRules)
   new_one s =
@@ -276,7 +284,7 @@ widens old new sql text h = record {
       let before = first.before in
       let ran : Ran (create_of EventRules) old new = subst (λ s. Ran s old new) text h in
       let counted = ap lacks_sequence (sym before.is) ∙ before.counted in
-      let made = makes_one EventRules schema before.tables.1 counted old new ran (over schema content them.rows)
+      let made = makes_one EventRules schema before.tables.1.0 counted old new ran (over schema content them.rows)
       first.holds (bare_next schema them before content none) in
       subst (λ s. HasTables Current s → Holds s new.now (over s content them.rows)) (sym before.is)
       (λ club. widened_over schema them before content none club new.now made) before.clear.club;

@@ -14,6 +14,7 @@ pub use Rattle.store_tables.proofs.PlacedQuestions.{members_by_name_placed, memb
 pub use Rattle.store_tables.proofs.PlacedQuestions.{events_by_name_placed, games_by_key_placed}
 pub use Rattle.store_tables.proofs.PlacedQuestions.{challenges_by_number_placed}
 pub use Rattle.store_tables.proofs.PlacedQuestions.{moves_by_ply_placed, seen_by_position_placed, scores_by_pair_placed}
+pub use Rattle.store_tables.proofs.PlacedLookups.{challenges_by_other_placed}
 -- Contents that are held alike, and tables of which no two rows have one key.
 pub use Rattle.store_tables.proofs.SameLemmas.{leaves_same, exactly_same}
 pub use Rattle.store_tables.proofs.UpsertLemmas.{same_rowid}
@@ -44,7 +45,7 @@ pub use Rattle.store_tables.proofs.OverLemmas.{beside_same, left_same}
 pub use Rattle.store_tables.proofs.OverLemmas.{leaves_beside, leaves_first, leaves_no_club, still_beside, still_first}
 pub use Rattle.store_tables.proofs.OverLemmas.{rows_beside, rows_standing, rows_stored, club_held}
 pub use Rattle.store_tables.proofs.OverLemmas.{first_held, cells_are, keeps_moved, trees_here}
-pub use Rattle.store_tables.proofs.OverLemmas.{first_of_current, versions_apart, tables_alone}
+pub use Rattle.store_tables.proofs.OverLemmas.{has_first_tables, versions_apart, tables_alone}
 pub use Rattle.store_tables.proofs.OverLemmas.{alone_takes, alone_room, beside_alone, alone_exactly}
 pub use Rattle.store_tables.proofs.OverLemmas.{left_alone, alone_leaves, first_alone, stored_alone}
 -- What every sound database has of what is asked of the tables.

@@ -1,6 +1,8 @@
 -- The names of the tables, their order and their trees.
 use Rattle.std.specs.Prelude.{ℕ, List, [], ◌∷◌, codes}
 use Rattle.store_tables.specs.declared.names.Table.{Table}
+use Rattle.store_tables.specs.declared.names.Version.{Version}
+use Rattle.store_tables.specs.declared.names.Version.TheVariants.{First, Current}
 use Rattle.store_tables.specs.declared.names.Table.TheVariants.{Members, Events, EventRules, Challenges, Moves, Games}
 use Rattle.store_tables.specs.declared.names.Table.TheVariants.{Seen, Scores, Meta}
 
@@ -19,6 +21,11 @@ table_name Meta = codes "meta"
 -- the tables in the order in which they are created
 abbrev pub in_order : List Table
 in_order = Meta ∷ Members ∷ Events ∷ Challenges ∷ Moves ∷ Games ∷ Seen ∷ Scores ∷ EventRules ∷ []
+
+-- how many of the tables, in this order, a schema has
+abbrev pub table_count : Version → ℕ
+table_count First = 8
+table_count Current = 9
 
 -- The number of the table's tree in a database with only a club. Its indexes have the trees that follow.
 abbrev pub tree_of : Table → ℕ

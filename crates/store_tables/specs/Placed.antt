@@ -1,6 +1,6 @@
 -- A club's tables in any schema: in any order, with any trees, among foreign tables.
-use Rattle.std.specs.Prelude.{◌≡◌, ◌⊎◌, ℕ, ◌==◌, ◌&&◌, ◌^◌, nat_lt, true, false, if◌then◌else◌, List, [], ◌∷◌}
-use Rattle.std.specs.Prelude.{Option, Some, None, Ok, IfSome, find, slice_get, take}
+use Rattle.std.specs.Prelude.{◌≡◌, ℕ, ◌==◌, ◌&&◌, ◌^◌, nat_lt, true, false, if◌then◌else◌, List, [], ◌∷◌}
+use Rattle.std.specs.Prelude.{Option, Some, None, Ok, IfSome, drop, find, slice_get, take}
 use Rattle.std.specs.List.{AllByRecursion}
 use Rattle.sqlite.specs.Order.{Row}
 use Rattle.sqlite.specs.Schema.{Schema}
@@ -18,12 +18,10 @@ use Rattle.sqlite_schema.specs.declared.schema.Reference.{Reference}
 use Rattle.sqlite_trees.specs.Tree.{IsAscending}
 use Rattle.sqlite_value.specs.Keys.{plain}
 use Rattle.store_tables.specs.Contents.{Content}
-use Rattle.store_tables.specs.Names.{in_order, table_name, tree_of}
+use Rattle.store_tables.specs.Names.{in_order, table_count, table_name, tree_of}
 use Rattle.store_tables.specs.Tables.{made_as}
 use Rattle.store_tables.specs.declared.names.Table as of_club
-use Rattle.store_tables.specs.declared.names.Table.TheVariants.{EventRules}
 use Rattle.store_tables.specs.declared.names.Version.{Version}
-use Rattle.store_tables.specs.declared.names.Version.TheVariants.{First, Current}
 
 -- The schema has this table of a club, with a tree of its own.
 pub record HasTableAt (schema : Schema) (table : of_club.Table) : Type 0 where
@@ -41,22 +39,25 @@ pub record HasTableAt (schema : Schema) (table : of_club.Table) : Type 0 where
 
 -- the tables of this schema version
 abbrev pub tables_of : Version → List of_club.Table
-tables_of First = take 8 in_order
-tables_of Current = in_order
+tables_of version = take (table_count version) in_order
 
 -- The schema has the tables of this version, and perhaps others.
 abbrev pub HasTables : Version → Schema → Type 0
 HasTables version schema = AllByRecursion (HasTableAt schema) (tables_of version)
 
+-- the tables that only later versions have
+abbrev pub later_tables : Version → List of_club.Table
+later_tables version = drop (table_count version) in_order
+
 -- The schema has the tables of exactly this version: no table, view or index uses the name of a table of a later
 -- version.
 abbrev pub HasTablesOf : Version → Schema → Type 0
-HasTablesOf First schema = HasTables First schema × (is_used schema (table_name EventRules) ≡ false)
-HasTablesOf Current schema = HasTables Current schema
+HasTablesOf version schema = HasTables version schema
+    × AllByRecursion (λ table. is_used schema (table_name table) ≡ false) (later_tables version)
 
--- those of schema 1 or of schema 2
+-- those of one of the versions
 abbrev pub HasClubTables : Schema → Type 0
-HasClubTables schema = HasTablesOf First schema ⊎ HasTablesOf Current schema
+HasClubTables schema = (version : Version) × HasTablesOf version schema
 
 -- a property of each of these tables at its place
 abbrev pub EachStanding : (schema : Schema) → ((table : of_club.Table) → HasTableAt schema table → Type 0)

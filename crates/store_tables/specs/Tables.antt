@@ -12,7 +12,7 @@ use Rattle.sqlite_value.specs.Keys.{plain}
 use Rattle.sqlite.specs.Schema.{Schema}
 use Rattle.sqlite.specs.Kind.TheVariants.{Integer, Text}
 use Rattle.sqlite_catalog.specs.Change.{automatics}
-use Rattle.store_tables.specs.Names.{in_order, tree_of}
+use Rattle.store_tables.specs.Names.{in_order, table_count, tree_of}
 use Rattle.store_tables.specs.declared.names.Table as of_club
 use Rattle.store_tables.specs.declared.names.Table.TheVariants as variant
 use Rattle.store_tables.specs.declared.names.Version.{Version}
@@ -148,14 +148,9 @@ club_schema = record { tables = tables; indexes = flat_indexes tables; views = [
 abbrev pub schema_after : ℕ → Schema
 schema_after n = record { tables = take n tables; indexes = flat_indexes (take n tables); views = [] }
 
--- schema 1: all tables but the last
-abbrev pub first_schema : Schema
-first_schema = schema_after 8
-
 -- the schema of a database with only a club of this version
 abbrev pub schema_of : Version → Schema
-schema_of First = first_schema
-schema_of Current = club_schema
+schema_of version = schema_after (table_count version)
 
 -- the schema number in `meta`
 abbrev pub schema_number : Version → ℕ

@@ -11,6 +11,45 @@ pub enum Version {
     Current,
 }
 
+impl Version {
+    ghost use Rattle.std.specs.Prelude.{◌≡◌, ◌≢◌, pos, None, IfSome};
+    ghost use Rattle.store_tables.specs.Names.{table_count};
+    ghost use Rattle.store_tables.specs.Tables.{schema_number};
+    ghost use Rattle.store_tables.specs.declared.names.Version.{Version};
+
+    /// The number of the schema in `meta`.
+    pub fn number(self) -> i64
+        ensures { result ≡ pos (schema_number self) }
+    {
+        match self {
+            Version::First => 1,
+            Version::Current => 2,
+        }
+    }
+
+    /// The schema with this number in `meta`; `None` if the program does not know it.
+    pub fn from_number(number: i64) -> Option<Version>
+        ensures some { IfSome result (λ version. number ≡ pos (schema_number version)) }
+        ensures none { result ≡ None → (version : Version) → number ≢ pos (schema_number version) }
+    {
+        match number {
+            1 => Some(Version::First),
+            2 => Some(Version::Current),
+            _ => None,
+        }
+    }
+
+    /// How many of `Table::ALL` the schema has: the first ones.
+    pub fn table_count(self) -> usize
+        ensures { result ≡ table_count self }
+    {
+        match self {
+            Version::First => 8,
+            Version::Current => 9,
+        }
+    }
+}
+
 /// A table of a club.
 #[derive(Debug, Clone, Copy, PartialEq, Eq)]
 pub enum Table {

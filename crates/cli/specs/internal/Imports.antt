@@ -9,21 +9,9 @@ use Rattle.cli.specs.declared.words.Task.TheVariants as task
 
 -- the command with this text, if it is an import
 abbrev pub with_text : Vec ℕ Global → Command → Command
-with_text text (command.AddMember c) = command.AddMember c
-with_text text (command.AddEvent c) = command.AddEvent c
-with_text text (command.Seat c) = command.Seat c
 with_text text (command.Import c) = command.Import (record c { text = text })
-with_text text (command.OnGame c) = command.OnGame c
-with_text text command.Sweep = command.Sweep
-with_text text (command.Challenge c) = command.Challenge c
-with_text text (command.Withdraw c) = command.Withdraw c
-with_text text (command.Answer c) = command.Answer c
+with_text text other = other
 
 abbrev pub task_with : Vec ℕ Global → Task → Task
-task_with text task.Init = task.Init
 task_with text (task.Request command) = task.Request (with_text text command)
-task_with text (task.Ask question) = task.Ask question
-task_with text task.Verify = task.Verify
-task_with text task.Upgrade = task.Upgrade
-task_with text (task.Backup path) = task.Backup path
-task_with text (task.Batch batch) = task.Batch batch
+task_with text other = other

@@ -12,7 +12,8 @@ use Rattle.club_core.specs.declared.challenges.Challenge.{Challenge}
 use Rattle.club_core.specs.Members.{Member}
 use Rattle.club_core.specs.Events.{Event}
 use Rattle.club_core.specs.Game.{left_of}
-use Rattle.club_core.specs.LegalState.{Each, HaveUniqueKeys, HaveUniqueKeysIfAny, IsLegalMember, IsLegalEvent, IsLegalIn}
+use Rattle.club_core.specs.LegalState.{Each, HaveUniqueKeys, HaveUniqueKeysIfAny}
+use Rattle.club_core.specs.LegalState.{IsLegalMember, IsLegalEvent, IsLegalIn}
 use Rattle.club_core.specs.State.{place}
 use Rattle.club_core.specs.View.{clocks_in}
 use Rattle.store_tables.specs.Cells.{event_cells, move_cells, game_cells, seen_cells}
@@ -136,7 +137,8 @@ abbrev pub IsWithinGiven : {R P M E T : Type 0} → GameRules P M E T → GameVi
 IsWithinGiven rules view last = (n : ℕ) → last ≡ Some n → n ≤ last_moment → IsWithin rules view n
 
 -- the rows are those of this game of the club, with this id
-pub record IsGameAt (s : ClubState) (id : ℕ) (row : GameTableRow) (moves : List MoveRow) (game : ClubGame) : Type 0 where
+pub record IsGameAt (s : ClubState) (id : ℕ) (row : GameTableRow) (moves : List MoveRow)
+    (game : ClubGame) : Type 0 where
   pub legal : IsLegalIn both_games s game
   pub row_is : game_cells row ≡ row_of_game both_games s.events id game
   pub moves_are : map move_cells moves ≡ rows_of_moves both_games s.events id game

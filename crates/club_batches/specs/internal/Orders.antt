@@ -1,7 +1,8 @@
 -- The orders of a batch: what each line of its text states, and the causes of errors. No promise of the program rests
 -- on these definitions.
 use Rattle.std.specs.Prelude.{◌≡◌, ◌≢◌, ◌⊎◌, ◌<◌, ◌≤◌, ⊤, ℕ, ◌+◌, ◌==◌, Bool, true, false, ◌||◌, if◌then◌else◌}
-use Rattle.std.specs.Prelude.{List, [], ◌∷◌, ◌++◌, length, take, slice_index, Option, Some, None, codes, decimal, string_bytes}
+use Rattle.std.specs.Prelude.{List, [], ◌∷◌, ◌++◌, length, take, slice_index, Option, Some, None}
+use Rattle.std.specs.Prelude.{codes, decimal, string_bytes}
 use Rattle.std.specs.Char.{is_ascii_whitespace}
 use Rattle.std.specs.List.{count_by, filter, slice_split}
 use Rattle.std.specs.Str.{IsUtf8, bytes_eq, trim}
@@ -159,7 +160,7 @@ pub record HasBadLine (text message : List ℕ) : Type 0 where
 abbrev pub IsTooLong : (bytes message : List ℕ) → Type 0
 IsTooLong bytes message = (most_bytes < length bytes) × (message ≡ codes "error: a batch has at most 1048576 bytes\n")
 
--- number of the line in which the first bytes stand that are not UTF-8
+-- the number of the line with the first bytes that are not UTF-8
 abbrev pub no_text_line : List ℕ → ℕ
 no_text_line bytes = count_by (λ byte. byte == 10) (take (utf8_valid_len bytes) bytes) + 1
 

@@ -26,7 +26,7 @@ pub struct NewRows {
     pub seen: Vec<SeenRow>,
 }
 
-/// Returns the rows of a recorded game that is imported under a key. All plies have the timestamp `to_moment`.
+/// Returns the rows of a recorded game that is imported under a key. All plies have the timestamp `moment`.
 ///
 /// # Errors
 ///

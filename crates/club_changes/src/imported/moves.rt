@@ -57,7 +57,7 @@ fn ply_row(game: u32, ply: usize, texts: PlyTexts, moment: Moment, left: u64) ->
     }
 }
 
-/// Returns the rows of moves that all have the timestamp `to_moment`.
+/// Returns the rows of moves that all have the timestamp `moment`.
 ///
 /// # Errors
 ///

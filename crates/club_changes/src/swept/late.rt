@@ -20,7 +20,7 @@ pub fn side_after(plies: u32) -> Side
     }
 }
 
-/// The side to move if the game runs and that side has used more seconds by `to_moment` than it had left; else None.
+/// The side to move if the game runs and that side has used more seconds by `moment` than it had left; else None.
 pub fn late_side(stored: &GameColumns<'_>, moment: Moment) -> Option<Side>
     ensures { result ≡ late_side (columns_in stored.now) moment }
 {

@@ -1,5 +1,5 @@
--- What is promised about a database that was just opened: it holds a club, or it was rejected. No promise of the
--- program rests on these definitions.
+-- The promise about a database that was just opened: it holds a club, or it was rejected. No promise of the program
+-- rests on these definitions.
 use Rattle.std.specs.Prelude.{◌≡◌}
 use Rattle.sqlite.specs.Tree.{Trees}
 use Rattle.sqlite.specs.State.{State, Opens}

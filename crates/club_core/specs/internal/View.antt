@@ -111,8 +111,10 @@ StoodAfter rules (repeated reply) times first = Unit {0}
 StoodAfter rules (refused refusal) times first = Unit {0}
 
 -- the same, if the decision made a move
-abbrev pub RepetitionIfMoved : {R P M E T : Type 0} → GameRules P M E T → Outcome (Game M) → Decision R P M E T → ℕ → ℕ → Type 0
-RepetitionIfMoved rules outcome (decision.Accepted row (Some made) answer) times first = StoodAfter rules outcome times first
+abbrev pub RepetitionIfMoved : {R P M E T : Type 0} → GameRules P M E T → Outcome (Game M) → Decision R P M E T → ℕ → ℕ
+    → Type 0
+RepetitionIfMoved rules outcome (decision.Accepted row (Some made) answer) times first =
+    StoodAfter rules outcome times first
 RepetitionIfMoved rules outcome (decision.Accepted row None answer) times first = Unit {0}
 RepetitionIfMoved rules outcome (decision.Repeated answer) times first = Unit {0}
 RepetitionIfMoved rules outcome (decision.Refused refusal) times first = Unit {0}

@@ -1,5 +1,5 @@
--- The test of a text is true where the text stands for the opening, and nowhere else. No promise of the program rests
--- on these definitions.
+-- The test of a text is true exactly if the text means the opening. No promise of the program rests on these
+-- definitions.
 use Rattle.std.proofs.Common.{◌≡◌, ◌↔◌, ℕ, zero, suc, ◌+◌, ◌≤◌, ◌<◌, Bool, true, false, List, [], ◌∷◌, ◌++◌, length}
 use Rattle.std.proofs.Common.{Option, Some, None, Result, Ok, Err, refl, sym, ap, subst, ◌∙◌, arith}
 use Rattle.std.specs.Prelude.{IsTrue, if◌then◌else◌}
@@ -24,7 +24,7 @@ use Rattle.club_games.specs.internal.FenReading.{is_opening_unless, is_opening_f
 
 -- ---- what the function reads is read by the grammar's reader
 
--- what is read on from a reading was read on from a good one
+-- a reading that continues another without an error continues one without an error
 read-on : {A B : Type 0} (r : Result A ℕ) (next : Result A ℕ → Result B ℕ) (value : B)
     → ((offset : ℕ) → next (Err offset) ≡ Err offset) → next r ≡ Ok value
     → (front : A) × (r ≡ Ok front) × (next (Ok front) ≡ Ok value)

@@ -11,7 +11,8 @@ use Rattle.pdn_games.specs.Skips.{past_skipped}
 use Rattle.pdn_games.specs.internal.SkipGrammar.{IsSkipped, blank, comment, note, variation, marks, line_end}
 use Rattle.pdn_games.specs.Tags.{TagFront, tag_front}
 use Rattle.pdn_games.specs.Tokens.{TokenFront, tag_token, word_len, result_token, longest, token_front}
-use Rattle.pdn_games.specs.Tokens.{LexStep, ended, skipped, found, stuck, found_front, front_with, front_at, begins_feed}
+use Rattle.pdn_games.specs.Tokens.{LexStep, ended, skipped, found, stuck, found_front, front_with, front_at}
+use Rattle.pdn_games.specs.Tokens.{begins_feed}
 use Rattle.pdn_games.specs.Tokens.{lets_follow, PlacedToken, Lexes, at_end, stops, skips, takes}
 use Rattle.pdn_games.proofs.Proved.{skipped-parts, tag-split}
 use Rattle.club_games.specs.internal.PdnReading.{Lexed, with_token, after_front, lexed}

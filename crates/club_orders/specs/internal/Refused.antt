@@ -1,4 +1,4 @@
--- Which tasks open a club, and what is promised about files that are opened, rejected or not upgraded. No promise of
+-- The tasks that open a club, and the promises about files that are opened, rejected or not upgraded. No promise of
 -- the program rests on these definitions.
 use Rattle.std.specs.Prelude.{◌≡◌, ◌≢◌, List}
 use Rattle.sqlite.specs.Tree.{Trees}

@@ -1,6 +1,7 @@
--- The command line before it is parsed: the file may begin with a hyphen if it stands behind `--`. No promise of the
+-- The command line before it is parsed: the file may begin with a hyphen if it follows `--`. No promise of the
 -- program rests on these definitions.
-use Rattle.std.specs.Prelude.{ℕ, Bool, List, [], ◌∷◌, ◌+◌, ◌++◌, ◌||◌, Option, None, Some, codes, drop, option_map, take, if◌then◌else◌}
+use Rattle.std.specs.Prelude.{ℕ, Bool, List, [], ◌∷◌, ◌+◌, ◌++◌, ◌||◌, Option, None, Some, codes, drop}
+use Rattle.std.specs.Prelude.{option_map, take, if◌then◌else◌}
 use Rattle.std.specs.Str.{bytes_eq}
 
 -- `--explain` or `--now=SECONDS`

@@ -50,7 +50,8 @@ module _ {P M E T : Type 0} (rules : GameRules P M E T) (line : List M) (positio
   IsStood (Some stood) = HasStood stood
 
 -- the entries are the repetition counts and first plies of all positions on this line
-pub record IsTallyOf {P M E T : Type 0} (rules : GameRules P M E T) (line : List M) (tally : PositionCounts) : Type 0 where
+pub record IsTallyOf {P M E T : Type 0} (rules : GameRules P M E T) (line : List M)
+    (tally : PositionCounts) : Type 0 where
   pub stood : (ms : List M) (text : PositionText) → IsLegalLine rules rules.start ms
       → string_bytes text ≡ rules.write_position (position_after rules rules.start ms)
       → IsStood rules line (position_after rules rules.start ms) (seen_at tally text)

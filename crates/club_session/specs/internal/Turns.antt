@@ -17,8 +17,8 @@ pub record IsHistoryOn (from version : Version) (them : Neighbours) (sessions : 
     pub stands : IsHistory from version them (sessions ++ turns) now
 
 -- the history, with commands added, leads to any state that a crash can leave, in this schema
-pub record IsReachableOn (from version : Version) (them : Neighbours) (sessions : List HistoryStep) (now : State) : Type 0
-  where
-    pub turns : List HistoryStep
-    pub are_turns : AreTurns turns
-    pub led : (db : Trees) → now.may_leave db → IsReachable from version them (sessions ++ turns) db
+pub record IsReachableOn (from version : Version) (them : Neighbours) (sessions : List HistoryStep)
+    (now : State) : Type 0 where
+  pub turns : List HistoryStep
+  pub are_turns : AreTurns turns
+  pub led : (db : Trees) → now.may_leave db → IsReachable from version them (sessions ++ turns) db

@@ -18,6 +18,7 @@ Tells (Some answer) done text = (answer.is_done ≡ done) × (answer.text.items 
 -- The client receives what the server sent: the answer if it is complete, nothing if it was cut off.
 pub record ReadsAnswer (said : List ℕ) (answer : Option OrderAnswer) : Type 0 where
   pub sound : IfSome answer (λ a. said ≡ encode_answer a.is_done a.text.items)
-  pub whole : (done : Bool) (text : List ℕ) → length text < 2 ^ 64 → said ≡ encode_answer done text → Tells answer done text
+  pub whole : (done : Bool) (text : List ℕ) → length text < 2 ^ 64 → said ≡ encode_answer done text
+      → Tells answer done text
   pub part : (done : Bool) (text more : List ℕ) → length text < 2 ^ 64 → 0 < length more
       → said ++ more ≡ encode_answer done text → answer ≡ None

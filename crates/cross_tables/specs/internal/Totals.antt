@@ -1,9 +1,7 @@
 -- The totals of the members of an event. No promise of the program rests on these definitions.
-use Rattle.std.specs.Prelude.{◌+◌, ◌<◌, ◌^◌, ℕ, List}
+use Rattle.std.specs.Prelude.{◌+◌, ◌<◌, ◌^◌}
 use Rattle.cross_tables.specs.declared.sums.ScoreTotals.{ScoreTotals}
-use Rattle.cross_tables.specs.declared.sums.OpponentScore.{OpponentScore}
 use Rattle.cross_tables.specs.declared.standings.Standing.{Standing}
-use Rattle.cross_tables.specs.Totals.{total}
 
 abbrev pub plus_sums : ScoreTotals → ScoreTotals → ScoreTotals
 plus_sums a b =
@@ -20,16 +18,6 @@ pub record Fit (sums : ScoreTotals) : Type 0 where
   pub wins : sums.wins < 2 ^ 32
   pub draws : sums.draws < 2 ^ 32
   pub losses : sums.losses < 2 ^ 32
-
--- The totals of a member.
-abbrev pub totals : ℕ → List OpponentScore → ScoreTotals
-totals member rows =
-    record {
-      points = total (λ s. s.points) member rows;
-      wins = total (λ s. s.wins) member rows;
-      draws = total (λ s. s.draws) member rows;
-      losses = total (λ s. s.losses) member rows;
-    }
 
 -- A standing with more sums added.
 abbrev pub raised : Standing → ScoreTotals → Standing

@@ -15,7 +15,7 @@ use Rattle.csa.specs.declared.game_writer.GameWriter.{GameWriter}
 use Rattle.csa.specs.Writing.{head_text, entries_text}
 use Rattle.csa.specs.WrittenGame.{IsGameText}
 
--- the lines before the moves; `piece_at` is the civil time of the start
+-- the lines before the moves; `at` is the civil time of the start
 unfoldable pub lines_text : CsaHead → CivilTime → List ℕ
 lines_text head at = head_text head.event.now head.black.now head.white.now at
 
@@ -23,7 +23,7 @@ lines_text head at = head_text head.event.now head.black.now head.white.now at
 abbrev pub text_up_to : CsaHead → List (SMove × ℕ) → CivilTime → List ℕ
 text_up_to head entries at = lines_text head at ++ entries_text opening entries
 
--- Since `before` the writer has received a prefix of the text; `piece_at` is the civil time in UTC of the start.
+-- Since `before` the writer has received a prefix of the text; `at` is the civil time in UTC of the start.
 pub record HasBegun (start : ℕ) (text : CivilTime → List ℕ) (before now : Option (List ℕ)) : Type 0 where
   pub at : CivilTime
   pub shown : IsCivil start at

@@ -28,7 +28,7 @@ CapturesBeginWithJumps = (p : Position) → ((m : DMove) × IsCapture p m) ↔ H
 abbrev pub TurnPasses : Type 0
 TurnPasses = (p : Position) (m : DMove) → Legal p m → (play p m).turn ≡ other p.turn
 
--- A capture route that ends on `piece_at`, followed by one more jump.
+-- A capture route that ends on `at`, followed by one more jump.
 pub record GrownRoute (b : Cells) (p : DPiece) (start : Squares) (from : ℕ) (landings : List ℕ) (last : ℕ)
     (all : Squares) (to : ℕ) : Type 0 where
   pub at : ℕ

@@ -4,7 +4,8 @@ use Rattle.http_head.specs.declared.head.FieldOccurrence.{FieldOccurrence}
 use Rattle.http_head.specs.declared.head.FieldOccurrence.TheVariants.{Absent, Once, Twice}
 use Rattle.http_head.specs.declared.head.ParsedHead as code
 use Rattle.http_head.specs.declared.refusals.HeadRefusal.{HeadRefusal}
-use Rattle.http_head.specs.Head.{Occurrence, absent, once, twice, ParsedHead}
+use Rattle.http_head.specs.declared.head.NamedHost as named
+use Rattle.http_head.specs.Head.{Occurrence, absent, once, twice, ParsedHead, NamedHost}
 
 abbrev pub occurrence_view : FieldOccurrence → Occurrence
 occurrence_view Absent = absent
@@ -18,6 +19,9 @@ outline_view o =
 abbrev pub outline_result : Result code.ParsedHead HeadRefusal → Result ParsedHead HeadRefusal
 outline_result (Ok o) = Ok (outline_view o)
 outline_result (Err refusal) = Err refusal
+
+abbrev pub named_host_view : named.NamedHost → NamedHost
+named_host_view h = record { target = h.target.now; host = option_map (λ v. v.now) h.host }
 
 -- the values that were found
 abbrev pub listed : FieldOccurrence → List (List ℕ)

@@ -44,4 +44,5 @@ pub data IsSkipped (line : Bool) (text rest : List ℕ) : Type 0 where
 
 -- The lexer skips exactly these parts.
 abbrev pub SkipsFollowGrammar : Type 0
-SkipsFollowGrammar = (line : Bool) (text rest : List ℕ) → (past_skipped line text ≡ Some rest) ↔ IsSkipped line text rest
+SkipsFollowGrammar =
+    (line : Bool) (text rest : List ℕ) → (past_skipped line text ≡ Some rest) ↔ IsSkipped line text rest

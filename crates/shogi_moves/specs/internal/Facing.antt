@@ -7,7 +7,8 @@ use Rattle.squares.specs.declared.shogi.piece.SPiece.{SPiece}
 use Rattle.squares.specs.Sides.{same_side}
 use Rattle.squares.specs.ShogiBoard.{ShogiBoard}
 use Rattle.shogi_moves.specs.declared.heading.MoveDirection.{MoveDirection}
-use Rattle.shogi_moves.specs.declared.heading.MoveDirection.TheVariants.{Forward, ForwardLeft, ForwardRight, Left, Right}
+use Rattle.shogi_moves.specs.declared.heading.MoveDirection.TheVariants.{Forward, ForwardLeft, ForwardRight, Left}
+use Rattle.shogi_moves.specs.declared.heading.MoveDirection.TheVariants.{Right}
 use Rattle.shogi_moves.specs.declared.heading.MoveDirection.TheVariants.{Back, BackLeft, BackRight, JumpLeft, JumpRight}
 use Rattle.shogi_moves.specs.Reach.{line, range}
 use Rattle.shogi_moves.specs.internal.Search.{all_headings}

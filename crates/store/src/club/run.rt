@@ -70,8 +70,8 @@ impl<S: Alter> Club<S> {
     ///
     /// # Guarantees
     ///
-    /// `outcomes`: the outcomes are those of the club's specification. `whole`, `to_i64`: without a fault every request
-    /// is answered, and the tables hold the state after all. `fault`, `seconds_left`: after a fault or a crash the file
+    /// `outcomes`: the outcomes are those of the club's specification. `whole`, `stored`: without a fault every request
+    /// is answered, and the tables hold the state after all. `fault`, `left`: after a fault or a crash the file
     /// holds the state after the answered requests, or after one more.
     pub fn run(&mut self, alloc: Global, requests: &[Request]) -> Run
         ensures shut { self.old.needs_reopening ≡ true → (result.fault ≡ Some StoreFault.Reopen) ×

@@ -67,7 +67,8 @@ put_text table =
     codes "INSERT INTO " ++ (table.name ++ (codes " (" ++ (listed (names_of table)
     ++ (codes ") VALUES (" ++ (listed (parameters_of table)
     ++ (codes ") ON CONFLICT (" ++ (listed (key_names table)
-    ++ (codes ") DO UPDATE SET " ++ listed (map (λ name. name ++ (codes " = excluded." ++ name)) (names_of table))))))))))
+    ++ (codes ") DO UPDATE SET "
+    ++ listed (map (λ name. name ++ (codes " = excluded." ++ name)) (names_of table))))))))))
 
 -- ---- the SELECTs
 
@@ -104,3 +105,7 @@ by_first_text table = found_text table (take 1 (names_of table)) (drop 1 (key_na
 -- the row with given values in a whole key or a UNIQUE column
 abbrev pub question_text : Table → List ℕ → List ℕ
 question_text table key = found_text table (map (name_at (names_of table)) key) []
+
+-- the rows with a given value in one column, in the order of the key
+abbrev pub by_column_text : Table → ℕ → List ℕ
+by_column_text table at = found_text table (name_at (names_of table) at ∷ []) (key_names table)

@@ -8,8 +8,8 @@ pub returns-clause-reads : goal.returns-clause-reads
 returns-clause-reads g c =
     reads_on c.in_ok-event.ensures.reads (reads_on c.in_ok-first.ensures.reads c.in_ok-second.ensures.reads)
 
-pub returns-clause-possible_faults : goal.returns-clause-possible_faults
-returns-clause-possible_faults g c clean s id game is_club at is k =
+pub returns-clause-names : goal.returns-clause-names
+returns-clause-names g c clean s id game is_club at is k =
     let two = clean_before c.name_of-2.ensures.reads clean in
     let one = clean_before c.name_of.ensures.reads two in
     let k1 = rows_after c.in_ok-event.ensures.reads one (tables s) k in

@@ -6,7 +6,7 @@ use Rattle.club_answers.proofs.exported.write_plies.Goals as goal
 pub loop-ply-preserved : goal.loop-ply-preserved
 loop-ply-preserved g c =
     record {
-      under_way = c.in_ok-write_row.ensures.stays_open;
+      under_way = c.in_ok-write_row.ensures.in_progress;
       reads = reads_on c.loop-ply.invariant.reads c.in_ok-row.ensures.reads;
       written = λ clean content terms game title before k tells legal count first.
           let early = clean_before c.row_of.ensures.reads clean in

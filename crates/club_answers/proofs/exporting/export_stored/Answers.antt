@@ -14,7 +14,7 @@ returns-clause-written g c clean =
       game,
       at,
       c.in_ok-names.names,
-      c.in_ok-names.ensures.possible_faults looked s id game is_club at is k,
+      c.in_ok-names.ensures.names looked s id game is_club at is k,
       adds s id game is_club at is (rows_after c.in_ok-names.ensures.reads looked (tables s) k),
     ))
     (c.export_in.ensures.written clean)
@@ -26,5 +26,5 @@ returns-clause-begun g c clean s id game is_club at is k =
     (rows_after c.in_ok-names.ensures.reads looked (tables s) k)) [
       | inl same ↦ inl (λ i. g.W.Write.contents (same i))
       | inr begun ↦
-          inr (game, at, c.in_ok-names.names, c.in_ok-names.ensures.possible_faults looked s id game is_club at is k, begun)
+          inr (game, at, c.in_ok-names.names, c.in_ok-names.ensures.names looked s id game is_club at is k, begun)
     ]

@@ -9,7 +9,7 @@ pub returns-clause-viewed : goal.returns-clause-viewed
 returns-clause-viewed g c clean s id game is_club at is k =
     let early = clean_before c.played_in.ensures.reads clean in
     let kept = rows_after c.in_ok-names.ensures.reads early (tables s) k in
-    let named = c.in_ok-names.ensures.possible_faults early s id game is_club at is k in
+    let named = c.in_ok-names.ensures.names early s id game is_club at is k in
     record {
       event = named.event;
       first = named.first;

@@ -1,4 +1,5 @@
-use Rattle.std.proofs.Common.{inr, subst, sym}
+use Rattle.std.proofs.Common.{subst, sym}
+use Rattle.store_tables.specs.Placed.{HasClubTables}
 use Rattle.sqlite.specs.Held.{state}
 use Rattle.store_tables.proofs.Proved.{only_reading, reads_then, clean_before, reads_on}
 use Rattle.club_check.specs.internal.Places.{IsRegisterOf}
@@ -8,7 +9,7 @@ use Rattle.club_rows.specs.Club.{ClubState}
 use Rattle.club_rows.specs.FirstSchema.{IsClubOf}
 use Rattle.club_check.proofs.ClubLemmas.{before, stays, have_ids, still, good_taken}
 use Rattle.club_check.proofs.FirstWrong.{has_people, people_read}
-use Rattle.club_check.proofs.StoredLemmas.{alone_of, exactly_of, of_version, one_of, tables_of_club}
+use Rattle.club_check.proofs.StoredLemmas.{alone_of, exactly_of, one_of, tables_of_club}
 use Rattle.sqlite.specs.Effect.{Database}
 use Rattle.club_check.specs.internal.RightTables.{NamesExamined}
 use Rattle.store_tables.specs.declared.names.Version.TheVariants.{Current}
@@ -47,7 +48,7 @@ returns-in-Ok-examine_rows-clause-found g c clean version opened =
     let s1 = state g.S.Store c.read_rows.new.conn in
     let s3 = state g.S.Store c.examine_rows.new.conn in
     let found = c.in-Ok.found in
-    let has = of_version version s0.now.schema (alone_of version s0.now.schema opened.schema) in
+    let has : HasClubTables s0.now.schema = (version, alone_of version s0.now.schema opened.schema) in
     let (own, unchanged) = returns-in-Ok-examine_rows-clause-stays g c clean has in
     let same_version = one_of found.version version s0.now.schema own (alone_of version s0.now.schema opened.schema) in
     let here : IsOpenedAt found.version s0 = subst (λ v. IsOpenedAt v s0) (sym same_version) opened in
@@ -67,7 +68,7 @@ returns-in-Ok-examine_rows-clause-found g c clean version opened =
 pub returns-in-Ok-examine_rows-clause-rows : goal.returns-in-Ok-examine_rows-clause-rows
 returns-in-Ok-examine_rows-clause-rows g c clean version s club holds =
     let clean1 = clean_before c.examine_rows.ensures.reads clean in
-    let (schema, read) = c.in-Ok.ensures.rows clean1 (of_version version _ holds.schema) in
+    let (schema, read) = c.in-Ok.ensures.rows clean1 (version, holds.schema) in
     club_read c.in-Ok.found.version version s club c.in-Ok.found.rows _ _ schema holds read
 
 pub returns-in-Ok-examine_rows-clause-same : goal.returns-in-Ok-examine_rows-clause-same
@@ -104,23 +105,23 @@ returns-in-Err-examine_rows-clause-first g c clean has =
 pub returns-in-Err-clause-accepts_sound : goal.returns-in-Err-clause-accepts_sound
 returns-in-Err-clause-accepts_sound g c clean version s club holds shape taken =
     good_taken c.args.oldest version s club _ holds shape taken c.in-Err.fault
-    (c.in-Err.ensures.reason_is_right clean (of_version version _ holds.schema))
+    (c.in-Err.ensures.reason_is_right clean (version, holds.schema))
 
 pub returns-in-Err-examine_rows-clause-accepts_sound : goal.returns-in-Err-examine_rows-clause-accepts_sound
 returns-in-Err-examine_rows-clause-accepts_sound g c clean version s club holds shape taken =
     good_taken c.args.oldest version s club _ holds shape taken c.in-Err-examine_rows.fault
-    (returns-in-Err-examine_rows-clause-reason_is_right g c clean (of_version version _ holds.schema))
+    (returns-in-Err-examine_rows-clause-reason_is_right g c clean (version, holds.schema))
 
 pub returns-in-Ok-examine_rows-clause-newer : goal.returns-in-Ok-examine_rows-clause-newer
 returns-in-Ok-examine_rows-clause-newer g c clean has =
     let clean1 = clean_before c.examine_rows.ensures.reads clean in
     one_of c.in-Ok.found.version Current (state g.S.Store c.args.conn.now).now.schema
-    (c.in-Ok.ensures.rows clean1 (inr has)).0 has
+    (c.in-Ok.ensures.rows clean1 (Current, has)).0 has
 
 pub returns-in-Ok-examine_rows-clause-standing : goal.returns-in-Ok-examine_rows-clause-standing
 returns-in-Ok-examine_rows-clause-standing g c clean version s club holds =
     let clean1 = clean_before c.examine_rows.ensures.reads clean in
-    one_of c.in-Ok.found.version version _ (c.in-Ok.ensures.rows clean1 (of_version version _ holds.schema)).0
+    one_of c.in-Ok.found.version version _ (c.in-Ok.ensures.rows clean1 (version, holds.schema)).0
     holds.schema
 
 pub returns-in-Ok-examine_rows-clause-reads : goal.returns-in-Ok-examine_rows-clause-reads

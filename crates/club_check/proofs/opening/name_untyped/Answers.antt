@@ -9,16 +9,16 @@ use Rattle.club_check.specs.declared.fault.OpenFault.TheVariants.{Damaged}
 use Rattle.club_check.proofs.KnownLemmas.{fault_failed, named_damage, named_failed, named_right}
 use Rattle.club_check.proofs.opening.name_untyped.Goals as goal
 
-pub returns-in-Err-clause-possible_faults : goal.returns-in-Err-clause-possible_faults
-returns-in-Err-clause-possible_faults g c clean has s people ids = elim c.in-Err.ensures.fault [
+pub returns-in-Err-clause-first_damaged : goal.returns-in-Err-clause-first_damaged
+returns-in-Err-clause-first_damaged g c clean has s people ids = elim c.in-Err.ensures.fault [
   | inl memory ↦ inr (inl memory)
   | inr (t, is, none) ↦
       let (named, wrong) = c.in-Err.ensures.challenged s people t is in
       inr (inr (inl (is ∙ ap Damaged named, wrong)))
 ]
 
-pub returns-in-Ok-examine_play-clause-possible_faults : goal.returns-in-Ok-examine_play-clause-possible_faults
-returns-in-Ok-examine_play-clause-possible_faults g c clean has s people ids =
+pub returns-in-Ok-examine_play-clause-first_damaged : goal.returns-in-Ok-examine_play-clause-first_damaged
+returns-in-Ok-examine_play-clause-first_damaged g c clean has s people ids =
     let s0 = state g.S.Store c.args.conn.now in
     let s1 = state g.S.Store c.examine_play.new.conn in
     let judged : Rows = record c.args.rows { games = c.args.judged } in
@@ -36,8 +36,8 @@ pub returns-in-Ok-examine_play-clause-faults : goal.returns-in-Ok-examine_play-c
 returns-in-Ok-examine_play-clause-faults g c clean has = inr (inr
     (named_damage c.in-Ok-examine_play.wrong c.named_by.result c.named_by.ensures.moves c.named_by.ensures.games))
 
-pub returns-clause-possible_faults : goal.returns-clause-possible_faults
-returns-clause-possible_faults g c clean has s people ids =
+pub returns-clause-first_damaged : goal.returns-clause-first_damaged
+returns-clause-first_damaged g c clean has s people ids =
     let judged : Rows = record c.args.rows { games = c.args.judged } in
     let db = (state g.S.Store c.args.conn.now).now in
     let fault = c.in-Err-examine_play.fault in

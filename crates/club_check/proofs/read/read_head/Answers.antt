@@ -40,11 +40,8 @@ returns-in-Some-clause-reason_is_right g c clean has =
     let clean1 = clean_before c.check_rules.ensures.reads clean in
     let told = c.in-Ok.told in
     let found = c.in-Ok.ensures.found clean1 has in
-    let (named, current, first) = c.in-Some.ensures.some in
-    inr
-    (inl
-    (subst (λ o. NamesSchema o s0.now c.in-Some.fault) (sym current)
-    (refused_named told.meta s0 s1 c.in-Some.fault (subst (λ v. IsMetaRead v told.meta s0 s1) first found) named)))
+    let (named, less) = c.in-Some.ensures.some in
+    inr (inl (refused_named c.args.oldest told.version told.meta s0 s1 c.in-Some.fault found named less))
 
 pub returns-in-Err-check_tables-clause-reason_is_right : goal.returns-in-Err-check_tables-clause-reason_is_right
 returns-in-Err-check_tables-clause-reason_is_right g c clean has =

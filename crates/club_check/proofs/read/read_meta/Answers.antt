@@ -3,7 +3,7 @@ use Rattle.std.proofs.lemmas.Result.{IfOk-weaker}
 use Rattle.std.proofs.lemmas.Option.{IfSome_then}
 use Rattle.store_tables.specs.internal.Cells.{meta_cells}
 use Rattle.sqlite.specs.Held.{state}
-use Rattle.club_check.proofs.StoredLemmas.{of_version, stands}
+use Rattle.club_check.proofs.StoredLemmas.{stands}
 use Rattle.std.specs.Prelude.{OnOk, is_ok}
 use Rattle.store_tables.specs.declared.names.Table.TheVariants.{Meta}
 use Rattle.club_check.proofs.ClubLemmas.{shown_one, read_one}
@@ -17,7 +17,7 @@ returns-clause-none g c clean =
     IfOk-weaker c.one_meta.result _ _ (λ o wrong none version content k one.
     wrong none
     (shown_one old.now version content _ c.in-Ok.shown.items old new (search rules) refl
-    (c.in-Ok.ensures.rows clean (stands Meta tt (of_version version old.now.schema k.schema))) k one))
+    (c.in-Ok.ensures.rows clean (stands Meta tt (version, k.schema))) k one))
     c.one_meta.ensures.none
 
 pub returns-clause-some : goal.returns-clause-some

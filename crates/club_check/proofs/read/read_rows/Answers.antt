@@ -146,4 +146,4 @@ returns-else-are_typed-clause-first g c clean has =
     holds (judged_in (content 10) known.shown judged.games.items
     (held_same (games 10) 5 refl refl holds known.keeps) known.ids known.judged))
     (before (λ d. NamesUntyped rows judged d c.name_untyped.result) known.same
-    (c.name_untyped.ensures.possible_faults clean (still known.same has) s has_rows ids))
+    (c.name_untyped.ensures.first_damaged clean (still known.same has) s has_rows ids))

@@ -1,8 +1,8 @@
 use Rattle.std.proofs.Common.{inr}
 use Rattle.club_orders.proofs.copying.back_up.Goals as goal
 
-pub returns-in-Err-Copy-clause-stays_open : goal.returns-in-Err-Copy-clause-stays_open
-returns-in-Err-Copy-clause-stays_open g c clean is = c.copy_tables.ensures.stays_open clean cc
+pub returns-in-Err-Copy-clause-unchanged : goal.returns-in-Err-Copy-clause-unchanged
+returns-in-Err-Copy-clause-unchanged g c clean is = c.copy_tables.ensures.unchanged clean cc
 
 pub returns-in-Ok-clause-copied : goal.returns-in-Ok-clause-copied
 returns-in-Ok-clause-copied g c clean sure is content at empty = c.in-Ok.ensures.stored clean sure content at empty

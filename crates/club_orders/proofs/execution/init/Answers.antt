@@ -1,4 +1,4 @@
-use Rattle.std.proofs.Common.{◌≡◌, [], inr, sym, subst}
+use Rattle.std.proofs.Common.{◌≡◌, [], sym, subst}
 use Rattle.sqlite.specs.State.{HasCleanDisk}
 use Rattle.store.specs.Histories.{IsHistory}
 use Rattle.sqlite.specs.Held.{state}
@@ -76,8 +76,8 @@ returns-in-Err-clause-existing g c clean opens has = (
 
 pub returns-in-Ok-clause-unchanged : goal.returns-in-Ok-clause-unchanged
 returns-in-Ok-clause-unchanged g c clean opens live s has =
-    absurd (returns-in-Ok-clause-existing g c clean opens (inr (stand_beside s _ (c.holds_exactly.ensures opens live) has))).0
+    absurd (returns-in-Ok-clause-existing g c clean opens (Current, stand_beside s _ (c.holds_exactly.ensures opens live) has)).0
 
 pub returns-in-Err-clause-unchanged : goal.returns-in-Err-clause-unchanged
 returns-in-Err-clause-unchanged g c clean opens live s has =
-    (returns-in-Err-clause-existing g c clean opens (inr (stand_beside s _ (c.holds_exactly.ensures opens live) has))).1
+    (returns-in-Err-clause-existing g c clean opens (Current, stand_beside s _ (c.holds_exactly.ensures opens live) has)).1

@@ -70,7 +70,7 @@ pub returns-in-Err-clause-refuses : goal.returns-in-Err-clause-refuses
 returns-in-Err-clause-refuses g c clean =
     record {
       blames = λ is. c.in-Err.ensures.reason_is_right clean is;
-      first = λ is. c.in-Err.ensures.possible_faults clean is;
+      first = λ is. c.in-Err.ensures.first_damaged clean is;
       kept = λ other opens db left.
           g.met.S.Store.settled c.args.conn.store db opens.is_open ((c.in-Err.ensures.kept other).may clean db left);
     }

@@ -44,8 +44,8 @@ returns-in-Ok-clause-keeps g c clean opens db left =
 pub returns-in-Err-clause-keeps : goal.returns-in-Err-clause-keeps
 returns-in-Err-clause-keeps g c clean = (c.in-Err.ensures.refuses clean).kept
 
-pub returns-in-Ok-clause-possible_faults : goal.returns-in-Ok-clause-possible_faults
-returns-in-Ok-clause-possible_faults g c not = absurd (not refl)
+pub returns-in-Ok-clause-possible_reports : goal.returns-in-Ok-clause-possible_reports
+returns-in-Ok-clause-possible_reports g c not = absurd (not refl)
 
 pub returns-in-Ok-clause-same : goal.returns-in-Ok-clause-same
 returns-in-Ok-clause-same g c clean is =

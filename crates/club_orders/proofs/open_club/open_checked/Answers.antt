@@ -57,7 +57,7 @@ returns-clause-refuses g c =
           g.met.S.Store.settled c.args.conn.store db opens.is_open (told.1.1.may clean db left);
     })
     (both_err c.adopt.result _ _ c.adopt.ensures.reason_is_right
-    (both_err c.adopt.result _ _ c.adopt.ensures.possible_faults c.adopt.ensures.reads))
+    (both_err c.adopt.result _ _ c.adopt.ensures.first_damaged c.adopt.ensures.reads))
 
 pub returns-clause-older : goal.returns-clause-older
 returns-clause-older g c =

@@ -113,8 +113,8 @@ returns-in_default g c = record {
       (c.verify-report.ensures.passes mid opened.0 opened.1 s are.legal
       (are.finds _ (record { holds = here.holds; reads = here.reads })));
   sound = λ clean is. absurd (subst (λ r. OnlyUnopened r (λ fault. ⊤)) is
-      (c.verify-report.ensures.possible_faults c.in_default.not-Sound));
+      (c.verify-report.ensures.possible_reports c.in_default.not-Sound));
   copied = λ clean void s are is. subst (λ r. OnlyUnopened r (λ fault. ⊤)) is
-      (c.verify-report.ensures.possible_faults c.in_default.not-Sound);
+      (c.verify-report.ensures.possible_reports c.in_default.not-Sound);
   after_crash = λ clean void s are. tt;
 }

@@ -61,7 +61,7 @@ returns-in-Err-clause-told g c clean = inr (
   c.fault_of_opening.ensures,
   record {
     blames = λ is. c.in-Err.ensures.reason_is_right clean is;
-    first = λ is. c.in-Err.ensures.possible_faults clean is;
+    first = λ is. c.in-Err.ensures.first_damaged clean is;
     kept = λ opens db left.
         g.met.S.Store.settled c.args.conn.store db opens.is_open (c.in-Err.ensures.reads.may clean db left);
   },

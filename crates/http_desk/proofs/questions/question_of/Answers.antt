@@ -9,6 +9,10 @@ pub returns-in_ok-event-in-EventGames : goal.returns-in_ok-event-in-EventGames
 returns-in_ok-event-in-EventGames c =
     rw c.in-EventGames.is (c.in_ok-event-in-EventGames.event, c.in_ok-event-in-EventGames.ensures.ok, refl)
 
+pub returns-in_ok-event-in-EventStandings : goal.returns-in_ok-event-in-EventStandings
+returns-in_ok-event-in-EventStandings c =
+    rw c.in-EventStandings.is (c.in_ok-event-in-EventStandings.event, c.in_ok-event-in-EventStandings.ensures.ok, refl)
+
 pub returns-in_ok-key-in-MyGames : goal.returns-in_ok-key-in-MyGames
 returns-in_ok-key-in-MyGames c =
     rw c.in-MyGames.is (c.in_ok-key-in-MyGames.key, c.in_ok-key-in-MyGames.ensures.ok, refl)

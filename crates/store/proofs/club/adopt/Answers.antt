@@ -17,7 +17,7 @@ returns-in-Err-clause-first g c = λ clean them s club exactly shape.
     let old = state g.S.Store c.args.conn in
     let holds = holds_first them (first_tables s) old exactly in
     elim (good_at Current First s club old.now holds shape c.in-Err.fault
-    (c.in-Err.ensures.reason_is_right clean (inl holds.schema))) [
+    (c.in-Err.ensures.reason_is_right clean (First, holds.schema))) [
       | inl store ↦ inr (inl store)
       | inr (inl memory) ↦ inr (inr memory)
       | inr (inr (named, other)) ↦ inl named

@@ -7,6 +7,7 @@ use Rattle.store_tables.specs.declared.names.Version.TheVariants.{First, Current
 use Rattle.store_tables.proofs.Proved.{alone_exactly, beside_same, first_alone, leaves_first, left_same, still_beside}
 use Rattle.store_tables.proofs.Proved.{still_first}
 use Rattle.schema_match.specs.Shapes.{is_of_club}
+use Rattle.club_check.proofs.Proved.{least_number}
 use Rattle.club_rows.specs.Club.{tables}
 use Rattle.club_rows.specs.FirstSchema.{first_tables}
 use Rattle.club_check.specs.internal.Versions.{IsExactlyClub}
@@ -95,7 +96,7 @@ returns-in-Err-clause-fault g c clean them s first exactly db may =
 
 pub returns-in-Err-clause-accepts_sound : goal.returns-in-Err-clause-accepts_sound
 returns-in-Err-clause-accepts_sound g c clean version s club holds shape =
-    c.in-Err.ensures.accepts_sound clean version s club holds shape (λ is. absurd (not_newer refl is))
+    c.in-Err.ensures.accepts_sound clean version s club holds shape (least_number version)
 
 pub returns-in-Err-clause-after_crash : goal.returns-in-Err-clause-after_crash
 returns-in-Err-clause-after_crash g c clean opens live from version them chapters led db may =

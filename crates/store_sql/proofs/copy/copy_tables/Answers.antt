@@ -22,5 +22,5 @@ returns-clause-fault g c read clean content k empty db left =
       | inr whole ↦ inr (leaves_same (changed c.in-Ok.rows opening) content db same whole)
     ]
 
-pub returns-clause-stays_open : goal.returns-clause-stays_open
-returns-clause-stays_open g c read is = c.in-Ok.ensures.reads.kept refl read
+pub returns-clause-unchanged : goal.returns-clause-unchanged
+returns-clause-unchanged g c read is = c.in-Ok.ensures.reads.kept refl read

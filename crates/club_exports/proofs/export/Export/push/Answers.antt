@@ -22,8 +22,8 @@ returns-in_err-push_move-clause-begun g c title entries more before made is next
     let lasted = rw (c.seconds.ensures.value, c.seconds-2.ensures.value) at c.saturating_sub-seconds.ensures in
     push-begins is g.R.WriteRecord.IsText c.args.moment more same lasted c.push_move.ensures.begun
 
-pub returns-clause-stays_open : goal.returns-clause-stays_open
-returns-clause-stays_open g c =
+pub returns-clause-in_progress : goal.returns-clause-in_progress
+returns-clause-in_progress g c =
     let lasted = rw (c.seconds.ensures.value, c.seconds-2.ensures.value) at c.saturating_sub-seconds.ensures in
     record {
       title = c.requires.title;

@@ -1,8 +1,8 @@
 use Rattle.std.proofs.Common.{◌≡◌, ◌+◌, ◌<◌, Err, ap, ℕ, List, length, take, sym, subst, arith}
 use Rattle.std.proofs.lemmas.List.{take_all, take_more}
 use Rattle.cross_tables.specs.declared.sums.OpponentScore.{OpponentScore}
-use Rattle.cross_tables.specs.Totals.{AreTotals}
-use Rattle.cross_tables.specs.internal.Totals.{Fit, totals}
+use Rattle.cross_tables.specs.Totals.{AreTotals, totals}
+use Rattle.cross_tables.specs.internal.Totals.{Fit}
 use Rattle.cross_tables.specs.declared.standings.StandingsFault.TheVariants.{TooMany}
 use Rattle.std.proofs.lemmas.Result.{err_from_is_err_and}
 use Rattle.cross_tables.proofs.Adding.{sums-at, Fit-take}

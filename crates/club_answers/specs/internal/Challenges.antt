@@ -1,0 +1,17 @@
+-- The challenges of one member. No promise of the program rests on these definitions.
+use Rattle.std.specs.Prelude.{◌≡◌, ◌==◌, ◌||◌, ℕ, List, Bool, true}
+use Rattle.sqlite_rules.specs.Lists.{Has}
+use Rattle.sqlite_trees.specs.Tree.{IsAscending}
+use Rattle.club_core.specs.declared.challenges.Challenge.{Challenge}
+use Rattle.club_rows.specs.Club.{ClubState}
+use Rattle.club_answers.specs.Challenges.{ComesBefore}
+
+-- the challenge is by or to the member with this id
+abbrev pub is_with : ℕ → Challenge → Bool
+is_with member c = c.member == member || c.other == member
+
+-- the challenges of the club by and to the member, in order, each once
+pub record AreChallengesWith (s : ClubState) (member : ℕ) (challenges : List Challenge) : Type 0 where
+  pub there : (c : Challenge) → Has challenges c → Has s.challenges c × (is_with member c ≡ true)
+  pub back : (c : Challenge) → Has s.challenges c → is_with member c ≡ true → Has challenges c
+  pub order : IsAscending ComesBefore challenges

@@ -1,0 +1,14 @@
+use Rattle.std.proofs.Common.{rules}
+use Rattle.store_tables.proofs.Proved.{challenges_by_other_placed}
+use Rattle.store_sql.proofs.SelectLemmas.{lookup_reads, lookup_rows}
+use Rattle.store_sql.proofs.lookups.ChallengesToColumnValue.show.Goals as goal
+
+pub returns-clause-reads : goal.returns-clause-reads
+returns-clause-reads g c =
+    lookup_reads (challenges_by_other_placed c.args.self.now.member) (search rules) _ _ (λ rows. rows.items) _
+    c.query_all.ensures.mode c.query_all.ensures.survives c.query_all.ensures.ok c.query_all.ensures.err
+
+pub returns-clause-rows : goal.returns-clause-rows
+returns-clause-rows g c clean =
+    lookup_rows (challenges_by_other_placed c.args.self.now.member) (search rules) _ _ (λ rows. rows.items) _
+    c.query_all.ensures.survives clean (c.query_all.ensures.ok clean)
