@@ -1,8 +1,8 @@
-// The view of an event: its cross table and its games.
+// The view of an event: its standings as a cross table, and its games.
 import { button, byId, fill, make } from './dom.js';
 import { reason } from './ends.js';
 import { LASTING, lookAtClub, minute, secondsLeft } from './home.js';
-import { ask, request } from './server.js';
+import { ask } from './server.js';
 import { span, text } from './words.js';
 
 const POINTS = { '2-0': [2, 0], '1-1': [1, 1], '0-2': [0, 2] };
@@ -19,13 +19,15 @@ let seenEvent = '';
 let seenReplies = '';
 let repaint = () => {};
 // The last replies for an event, and the time at which they were received.
-let held = { games: [] };
+let held = { games: [], standings: [] };
 let shownRows = {};
 
-// The rows of the server's table: place, name, points, games, wins, draws, losses. No column contains a blank.
-function ranked(words) {
-  return words.trim().split('\n').slice(1).map((line) => line.trim().split(/\s+/).slice(0, 7));
-}
+// The columns after those of single games: what the server calls them, their heads, and the titles of these.
+const sums = (isRunning) => [
+  ...[['games', 'played'], ['wins', 'wins'], ['draws', 'draws'], ['losses', 'losses']].map(([key, head]) => [key, text(head)]),
+  ['sonneborn_berger', 'SB', text('sonnebornBerger')],
+  ...(isRunning ? [['running', text('inProgress')]] : []),
+];
 
 // How a game ended; or whose turn it is, and the time left.
 function outcome(game) {
@@ -47,26 +49,22 @@ function cell(games, name) {
   }, it.end ? String(POINTS[it.result][it.first === name ? 0 : 1]) : '\u2022')));
 }
 
-function crossTable(words, games, reader) {
-  const table = ranked(words);
-  const names = table.map((it) => it[1]);
-  const more = [...new Set(games.flatMap((it) => [it.first, it.second]))].filter((it) => !names.includes(it));
-  const rows = [...table, ...more.map((it) => ['\u2013', it, 0, 0, 0, 0, 0])];
+function crossTable(standings, games, reader) {
   const byPairs = {};
   for (const it of games) (byPairs[both(it.first, it.second)] ??= []).push(it);
   const head = (label, title = '') => make('th', { scope: 'col', title }, label);
-  const columns = rows.length > WIDEST ? [] : rows;
-  const cells = (row, at) => columns.map((other, to) => {
-    return at === to ? make('td', { className: 'self' }) : cell(byPairs[both(row[1], other[1])] ?? [], row[1]);
+  const columns = standings.length > WIDEST ? [] : standings;
+  const counts = sums(games.some((it) => !it.end));
+  const cells = (row) => columns.map((other) => {
+    return other === row ? make('td', { className: 'self' }) : cell(byPairs[both(row.member, other.member)] ?? [], row.member);
   });
   return make('table', { className: 'cross' },
     make('thead', {}, make('tr', {}, head('', text('place')), head(text('name')), head(text('points')),
-      ...columns.map((it, at) => head(String(at + 1), it[1])),
-      ...['played', 'wins', 'draws', 'losses'].map((it) => head(text(it))))),
-    make('tbody', {}, ...rows.map((row, at) => make('tr', { className: row[1] === reader ? 'mine' : '' },
-      make('td', {}, String(row[0])), make('th', { scope: 'row' }, row[1]),
-      make('td', { className: 'points' }, String(row[2])), ...cells(row, at),
-      ...row.slice(3).map((it) => make('td', {}, String(it)))))));
+      ...columns.map((it) => head(String(it.place), it.member)), ...counts.map(([, ...it]) => head(...it)))),
+    make('tbody', {}, ...standings.map((row) => make('tr', { className: row.member === reader ? 'mine' : '' },
+      make('td', {}, String(row.place)), make('th', { scope: 'row' }, row.member),
+      make('td', { className: 'points' }, String(row.points)), ...cells(row),
+      ...counts.map(([key]) => make('td', {}, String(row[key])))))));
 }
 
 const moveCount = (count) => {
@@ -105,24 +103,24 @@ export function startEvent() {
 }
 
 async function requestEvent(name) {
-  const words = await (await request(`events/${name}/table`)).text();
   const { games } = await ask(`events/${name}/games`);
-  held = { words, games, at: Date.now() };
+  const { standings } = await ask(`events/${name}/standings`);
+  held = { standings, games, at: Date.now() };
 }
 
 // `isShown` says whether the event is on the screen.
 export async function lookAtEvent(name, _, isShown) {
   if (!isShown || held.games.length <= MANY || Date.now() - held.at > LASTING) await requestEvent(name);
-  const { words, games } = held;
+  const { standings, games } = held;
   const { events } = await lookAtClub([name]);
   return (reader) => {
     const kind = events.find((it) => it.event === name)?.game;
     fill('title', name);
-    const now = JSON.stringify([name, words, games, kind, reader, minute(), text('code')]);
+    const now = JSON.stringify([name, standings, games, kind, reader, minute(), text('code')]);
     if (now === seenReplies) return;
     seenReplies = now;
     fill('about', `${text(kind)} \u00b7 ${text('scoring')}`);
-    fill('standings', ...(games[0] ? [crossTable(words, games, reader)] : [make('p', { className: 'empty' }, text('noGamesYet'))]));
+    fill('standings', ...(games[0] ? [crossTable(standings, games, reader)] : [make('p', { className: 'empty' }, text('noGamesYet'))]));
     if (name !== seenEvent) {
       byId('search').value = '';
       shownRows = {};

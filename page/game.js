@@ -5,7 +5,7 @@ import { button, byId, fill, make } from './dom.js';
 import { draughts } from './draughts.js';
 import { ending } from './ends.js';
 import { nextGame } from './home.js';
-import { lookAgain, perform } from './notices.js';
+import { answerOf, lookAgain, perform } from './notices.js';
 import { icon, picture } from './pieces.js';
 import { shogi } from './shogi.js';
 import { chosen } from './storage.js';
@@ -29,6 +29,11 @@ let isFlipped = false;
 let touched = null;
 let waiting = null;
 let sent = null;
+// The analysis: the plies of the game before the moves that are tried, these moves, and the server's reply to them.
+// No move of it is ever sent as a move.
+let study = null;
+// The requests for an analysis so far. Only the reply to the last one counts.
+let explored = 0;
 // The replies that are painted, without the seconds.
 let paintedGame = '';
 // The game and the number of plies that the board shows, so that one step is animated.
@@ -38,11 +43,13 @@ const players = () => [game.first, game.second];
 const own = () => players().indexOf(reader);
 const near = () => ((own() === 1) !== isFlipped ? 1 : 0);
 const isMyTurn = () => game && !game.end && own() === game.ply % 2;
-const plies = () => ply ?? game.ply;
+const plies = () => (study ? study.at + study.moves.length : ply ?? game.ply);
+// The side whose pieces can be touched.
+const mover = () => (study ? plies() % 2 : own());
 const first = (move) => rules.squares(move)[0];
 const target = (move) => rules.squares(move).at(-1);
-const tried = () => (ply === null ? waiting ?? sent : null);
-const playable = () => (isMyTurn() && ply === null && !tried() ? legal : []);
+const tried = () => (ply === null && !study ? waiting ?? sent : null);
+const playable = () => (study ? study.legal : isMyTurn() && ply === null && !tried() ? legal : []);
 const movesOf = (from, to) => playable().filter((it) => first(it) === from && target(it) === to);
 const isOpen = () => game && !byId('game').hidden;
 const passed = () => (Date.now() - told) / 1000;
@@ -54,6 +61,14 @@ function spell(at, move = game.moves[at]) {
   if (rules === draughts) return move;
   if (isJapanese()) return shogi.writtenInJapan(positions[at], move, at % 2, game.moves[at - 1]);
   return shogi.written(positions[at], move, at % 2);
+}
+
+// The same for a move that is tried.
+function spellTried(move) {
+  if (rules === draughts) return move;
+  const before = study.moves.at(-1) ?? game.moves[plies() - 1];
+  if (isJapanese()) return shogi.writtenInJapan(study.position, move, mover(), before);
+  return shogi.written(study.position, move, mover());
 }
 
 // Asks a question in a dialog and resolves to the index of the option taken. `seenAt` gets the index under the pointer or
@@ -78,9 +93,9 @@ function choose(question, options, seenAt = () => {}, looks = 'main') {
 
 function paintPosition() {
   const trial = tried();
-  const before = positions[plies()];
+  const before = study?.position ?? positions[plies()];
   const position = trial ? rules.play(before, trial, game.ply % 2) : before;
-  const last = trial ?? game.moves[plies() - 1];
+  const last = trial ?? study?.moves.at(-1) ?? game.moves[plies() - 1];
   const checked = rules.checked?.(position, (plies() + !!trial) % 2);
   const mustTake = playable()[0]?.includes('x');
   const marks = {
@@ -92,11 +107,12 @@ function paintPosition() {
     check: checked ? [checked] : [],
   };
   byId('board').className = mustTake ? 'must' : '';
-  paintBoard(position, { rules, near: near(), letters: chosen('letters'), marks });
+  byId('play').classList.toggle('study', !!study);
+  paintBoard(position, { rules, near: near(), own: mover(), letters: chosen('letters'), marks });
   drawRoutes(trial && rules.squares(trial).length > 2 ? [rules.squares(trial)] : [], 0);
   const now = { game: game.game, count: plies() + !!trial };
   if (now.game === seen.game && now.count - seen.count === 1) slide(first(last), target(last));
-  const undone = game.moves[now.count];
+  const undone = !study && game.moves[now.count];
   if (now.game === seen.game && seen.count - now.count === 1 && undone && !trial) slide(target(undone), first(undone));
   seen = now;
 }
@@ -124,6 +140,7 @@ function tick() {
 // The status line: whose turn and deadline; the end; or the move of an earlier position.
 function state() {
   const at = plies();
+  if (study) return [make('b', {}, text('analysis')), ` ${[...study.words, study.end && text(study.end)].filter(Boolean).join(text('comma'))}`];
   const move = at && text('moved', { name: players()[(at + 1) % 2], move: spell(at - 1) });
   if (ply !== null) return [move || text('atStart')];
   if (game.end) {
@@ -139,6 +156,7 @@ function state() {
 
 // The hint before a move: confirmation, an offer, an earlier position, a forced capture or a check.
 function hint() {
+  if (study) return text('analysisHint');
   const trial = waiting && tried();
   if (trial) return text('confirmHint', { move: spell(game.ply, trial) });
   if (sent) return text('sending');
@@ -159,7 +177,7 @@ function actions() {
   const next = game.ply + 1;
   const found = [];
   const may = (name, end, looks) => found.push(action(name, `games/${game.game}/${end}`, looks));
-  if (game.end || own() < 0) return found;
+  if (game.end || own() < 0 || study) return found;
   if (game.offer && game.offer !== reader) may('accept', `draw/${next}/accept`, 'main');
   if (!isMyTurn() && isOverdue()) may('claim', 'claim-time', 'main');
   if (isMyTurn() && rules.hasEntered?.(positions[game.ply], own())) may('declare', `declare/${next}`);
@@ -172,7 +190,7 @@ function actions() {
 function paintMoves() {
   const list = byId('moves');
   const step = (at) => {
-    const made = button(written[at], () => stepTo(at + 1), String(at + 1));
+    const made = button(written[at], () => (study ? explore(at + 1) : stepTo(at + 1)), String(at + 1));
     if (written[at] !== game.moves[at]) made.title = game.moves[at];
     return make('li', { value: at + 1 }, made);
   };
@@ -180,7 +198,7 @@ function paintMoves() {
   const old = list.querySelector('[aria-current]');
   old?.removeAttribute('aria-current');
   fill('moves', ...game.moves.map((_, at) => step(at)));
-  const current = list.children[plies() - 1]?.firstChild;
+  const current = list.children[(study?.at ?? plies()) - 1]?.firstChild;
   if (current) current.ariaCurrent = true;
   if (current !== old || !current) list.scrollTop = current ? current.offsetTop - list.clientHeight / 2 : 0;
 }
@@ -188,7 +206,7 @@ function paintMoves() {
 function paintSteps() {
   const made = Object.entries(BUTTONS).map(([name, by]) => {
     const step = button(icon(name), () => stepTo(plies() + by), name);
-    const at = by < 0 ? plies() > 0 : ply !== null;
+    const at = by < 0 ? plies() > 0 : study ? !study.moves[0] && study.at < game.ply : ply !== null;
     return Object.assign(step, { ariaLabel: text(name), title: text(name), ariaDisabled: !at });
   });
   const flip = button(icon('flip'), turnBoard, 'flip');
@@ -205,25 +223,26 @@ function paint() {
   fill('state', ...state());
   fill('hint', hint());
   const isWaiting = !!(waiting && tried());
-  byId('confirm').hidden = !isWaiting;
+  byId('confirm').hidden = !isWaiting && !study;
   byId('confirm').dataset.move = isWaiting ? spell(game.ply, waiting) : '';
-  fill('confirm', ...(isWaiting ? [button(text('confirm'), () => send(waiting), 'confirm', 'main'), button(text('takeBack'), () => takeBack(), 'back')] : []));
+  fill('confirm', ...(study ? [button(text('backToGame'), () => explore(null), 'leave', 'main'), button(text('undo'), () => stepTo(plies() - 1), 'undo')] : isWaiting ? [button(text('confirm'), () => send(waiting), 'confirm', 'main'), button(text('takeBack'), () => takeBack(), 'back')] : []));
   const found = actions();
   const isUrgent = (it) => it.className === 'main';
   fill('urgent', ...found.filter(isUrgent));
   fill('actions', ...found.filter((it) => !isUrgent(it)));
   const { next, count } = nextGame(game.game);
-  const isFree = next && !isMyTurn();
+  const isFree = next && !isMyTurn() && !study;
   fill('next', ...(isFree ? [make('a', { href: `#game/${next.game}`, className: 'button' }, text('nextGame', { count }))] : []));
   paintSteps();
   paintMoves();
   const words = make('span', {}, icon('record'), ` ${text('record')}`);
-  fill('tools', Object.assign(button(words, () => perform(download), 'record'), { id: 'record' }));
+  const opener = Object.assign(button(text('analyse'), () => explore(plies()), 'analyse'), { id: 'analyse', hidden: !!study });
+  fill('tools', opener, Object.assign(button(words, () => perform(download), 'record'), { id: 'record' }));
   tellUnsent();
 }
 
 function lay() {
-  layBoard(rules, near(), own());
+  layBoard(rules, near());
   seen = {};
   paint();
 }
@@ -233,7 +252,30 @@ function turnBoard() {
   lay();
 }
 
+// Shows the position after so many plies of the game and the moves that are tried then; null goes back to the game.
+async function explore(at, moves = [], words = []) {
+  touched = waiting = null;
+  explored += 1;
+  const { game: id } = game;
+  const count = explored;
+  if (at === null) study = null;
+  else {
+    const body = { game: id, ply: at, moves };
+    const reply = await answerOf(() => ask(`analysis/${rules === shogi ? 'shogi' : 'draughts'}`, body));
+    if (!reply || count !== explored || game?.game !== id) return;
+    study = { ...reply, at, words, position: rules.read(reply.position) };
+  }
+  paint();
+}
+
 function stepTo(count) {
+  if (study) {
+    const { at, moves, words } = study;
+    const to = Math.min(Math.max(count, 0), moves[0] ? plies() : game.ply);
+    if (to === plies()) return;
+    explore(Math.min(to, moves[0] ? at : to), moves.slice(0, Math.max(to - at, 0)), words.slice(0, Math.max(to - at, 0)));
+    return;
+  }
   ply = count < game.ply ? Math.max(count, 0) : null;
   touched = waiting = null;
   paint();
@@ -262,8 +304,9 @@ async function send(move) {
 
 // Lets the reader choose between moves with the same two squares: a promotion by its piece, a capture by its route.
 async function chooseMove(moves) {
-  const kind = rules.kind(positions[game.ply].board[first(moves[0])]);
-  const piece = (it) => make('span', {}, picture(it, own(), false, chosen('letters')), kindName(it));
+  const board = (study?.position ?? positions[game.ply]).board;
+  const kind = rules.kind(board[first(moves[0])]);
+  const piece = (it) => make('span', {}, picture(it, mover(), false, chosen('letters')), kindName(it));
   const options = moves.map((it) => (rules === shogi ? piece((it[4] ?? '') + kind) : it));
   const taken = await choose(text('which'), options, (at) => rules === draughts && drawRoutes(moves.map(rules.squares), at));
   drawRoutes([]);
@@ -280,6 +323,7 @@ async function go(from, to) {
   const moves = movesOf(from, to).reverse();
   const move = moves[moves.length > 1 ? await chooseMove(moves) : 0];
   if (!playable().includes(move)) return lift(null);
+  if (study) return explore(study.at, [...study.moves, move], [...study.words, spellTried(move)]).then(() => focusOn(to));
   if (!chosen('confirm')) return send(move);
   waiting = move;
   touched = null;
@@ -312,6 +356,7 @@ async function download() {
 function take(now, kind) {
   const isOther = game?.game !== now.game;
   if (isOther || now.ply !== game.ply || now.end) touched = waiting = sent = null;
+  if (isOther) study = null;
   game = now;
   settle(now);
   rules = kind === 'shogi' ? shogi : draughts;
@@ -322,7 +367,7 @@ function take(now, kind) {
   ply = null;
   isFlipped = false;
   seen = {};
-  layBoard(rules, near(), own());
+  layBoard(rules, near());
 }
 
 // Requests a game; returns the function that paints it.
@@ -346,7 +391,8 @@ export async function lookAtGame(id) {
 // Paints the game again after a change of the settings.
 export const repaintGame = () => isOpen() && lay();
 export function leaveGame() {
-  game = null;
+  game = study = null;
+  explored += 1;
   paintedGame = '';
   byId('dialog').close();
 }

@@ -23,14 +23,21 @@ export function sayUnsent(words, again, dismissed) {
 export const lookAgain = () => looker();
 export const startNotices = (look) => { looker = look; };
 
-// Runs an action, shows its failure if it has one, and looks again.
-export async function perform(deed) {
+// Runs an action, shows its failure if it has one, and resolves to its result.
+export async function answerOf(deed) {
+  let found;
   try {
-    await deed();
+    found = await deed();
     complain();
   } catch (error) {
     if (isPassing(error)) sayAway(error.message);
     complain(isPassing(error) ? text('notDone', { why: error.message }) : error.message);
   }
+  return found;
+}
+
+// The same, and looks again.
+export async function perform(deed) {
+  await answerOf(deed);
   await lookAgain();
 }
