@@ -7,14 +7,20 @@
    `rt fmt` keeps these on one line. Files that a script makes are left out.
 2. In the crates of CLEAR_CLAUSES no clause is named by a bare participle, a preposition or a pronoun. With `--all` the
    places in the other crates are printed, too, and count as failures.
+3. The kit takes the text of each crate: its files are laid out as `rt fmt` lays them, and have no word that the kit
+   refuses before it proves anything. Where there is no kit this is left out.
 """
+import contextlib
+import io
 import pathlib
 import re
+import subprocess
 import sys
 
 sys.path[0] = str(pathlib.Path(__file__).resolve().parents[1])
 from gate.names import PREPOSITIONS, TOP, crates, is_participle, line_of, sources
-from lib.report import exit_status, result
+from lib import kit
+from lib.report import exit_status, result, skip
 
 LONGEST = 120  # characters in a line
 MADE = {"club_page/src/joined.rt", "club_page/specs/Joined.antt"}  # by page/join.py
@@ -50,7 +56,29 @@ def vague_clauses():
                 yield crate, f"crates/{path}:{line_of(text, it.start(1))}: clause {it[1]}"
 
 
+def refused_texts(rt):
+    """What the kit says of each crate whose text it refuses before a proof."""
+    crates_of_kit = rt.rtlib.crates_below(str(TOP))
+    for crate in crates_of_kit:
+        said = io.StringIO()
+        with contextlib.redirect_stderr(said), contextlib.suppress(SystemExit):
+            rt.rtlib.stop_on_links(crate.folder)
+            rt.rtlib.stop_on_unread(crate.folder, crates_of_kit)
+            rt.rtlib.stop_on_text(crate, "verdict")
+            rt.stop_on_words(crate)
+            files = [it for it in rt.rtlib.files_of(crate.folder) if it.endswith((".rt", ".antt"))]
+            ran = subprocess.run([rt.rtlib.RATTLE, "fmt", "--check", *files], stderr=subprocess.PIPE, check=False)
+            said.write(ran.stderr.decode(errors="replace") if ran.returncode else "")
+        yield from said.getvalue().splitlines()
+
+
 def main():
+    rt = kit.load()
+    if rt is None:
+        skip("the kit takes the text of each crate", "there is no `rt` on the path")
+    else:
+        found = list(refused_texts(rt))
+        result(not found, "the kit takes the text of each crate", *found)
     found = list(long_lines())
     result(not found, f"no line of src/ and specs/ has more than {LONGEST} characters", *found)
     found = [place for crate, place in vague_clauses() if crate in CLEAR_CLAUSES or "--all" in sys.argv[1:]]
