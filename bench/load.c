@@ -1,7 +1,7 @@
-/* Asks a server of games as many clients at once do, a connection a request, and says how soon it is answered.
+/* Sends requests to a server of games as many clients at once do, one connection for each, and measures the replies.
 
-   desk_load PORT get CLIENTS EACH GAME              each client asks for the game so often
-   desk_load PORT post CLIENTS EACH GAME MOVES       client K plays the moves of the file MOVES, a word each, in game
+   load PORT get CLIENTS EACH GAME                   each client asks for the game so often
+   load PORT post CLIENTS EACH GAME MOVES            client K plays the moves of the file MOVES, a word each, in game
                                                      GAME + K
 
    Prints the requests a second, and the middle, the hundredth longest and the longest of their milliseconds; and how

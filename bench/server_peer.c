@@ -1,10 +1,10 @@
-/* A server of games in C over sqlite3, to which the desk is compared: a connection a request, one after another.
+/* A server of games in C over sqlite3, to compare ours with: one connection for each request, one after another.
 
-   desk_peer FILE PORT      FILE is a club's, of schema 2; GET /games/N and POST /games/N/moves/PLY as docs/http.md has
+   server_peer FILE PORT    FILE is a club's, of schema 2; GET /games/N and POST /games/N/moves/PLY as docs/http.md has
                             them
 
-   It knows no rules and refuses nothing but an unknown key: it reads the rows that the desk reads, writes those that
-   the desk writes by one commit, and says about as much. SYNC in the environment is run in place of
+   It knows no rules and refuses nothing but an unknown key: it reads the rows that our server reads, writes those that
+   ours writes by one commit, and replies with about as much. SYNC in the environment is run in place of
    `PRAGMA synchronous = FULL`. */
 #define _GNU_SOURCE
 #include <arpa/inet.h>
