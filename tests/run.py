@@ -102,6 +102,7 @@ TESTS_OF_PROGRAM = [
     Test("gate/trusted.py"),
     Test("gate/trusted_self_test.py"),
     Test("gate/crosschecks.py"),
+    Test("gate/bench.py"),
     Test("server/slow_clients.py", is_alone=True),
     Test("server/slow_readers.py", is_alone=True),
 ]
