@@ -1,36 +1,16 @@
 //! Moves that are tried after a line.
 
 ghost use Rattle.std.specs.Prelude.{◌≡◌, ◌<◌, ◌+◌, ◌++◌, ◌∷◌, ◌^◌, [], length, map, IfOk, IfErr};
-ghost use Rattle.std.specs.Prelude.{Contains, None, Ok, Some, string_bytes};
+ghost use Rattle.std.specs.Prelude.{None, Ok, Some, string_bytes};
 ghost use Rattle.std.specs.Option.{option_map};
-ghost use Rattle.club_core.specs.Step.{checked};
 ghost use Rattle.club_analysis.specs.Tried.{AreMovesAfter, IsAnalysis, IsRefusedLine, refusal_after};
 ghost use Rattle.club_analysis.specs.internal.Line.{Grows, HasTried, IsLine, IsTriedAs};
 
 use crate::lines::{Line, ShownLine};
+use club_core::read_legal;
 use club_requests::Refusal;
-use club_rules::{EndName, Memory, MoveRefusal, Rules};
+use club_rules::{EndName, Memory, Rules, write_moves};
 use std::alloc::Global;
-
-// Reads a move's text and checks that the move is legal.
-fn read_legal<R: Rules>(
-    alloc: Global,
-    position: &R::Position,
-    text: &str,
-) -> Result<Result<R::Move, MoveRefusal>, Memory>
-    ensures value { IfOk result
-        (λ read. read ≡ checked R.rules position.now (R.rules.read_move position.now text.now)) }
-    ensures legal { IfOk result (λ read. IfOk read (λ made. R.rules.check position.now made ≡ Ok tt)) }
-{
-    let made = match R::read_move(alloc, position, text)? {
-        Ok(made) => made,
-        Err(refusal) => return Ok(Err(refusal)),
-    };
-    match R::check(position, &made) {
-        Ok(()) => Ok(Ok(made)),
-        Err(refusal) => Ok(Err(refusal)),
-    }
-}
 
 // Adds a legal move to a line that has no end.
 fn with_move<R: Rules>(alloc: Global, line: Line<R>, made: R::Move) -> Result<Line<R>, Memory>
@@ -117,23 +97,6 @@ fn try_texts<R: Rules>(
     Ok(Ok(tried))
 }
 
-// The notation of each move in the position.
-fn written<R: Rules>(
-    alloc: Global,
-    position: &R::Position,
-    moves: &[R::Move],
-) -> Result<Vec<String>, Memory>
-    requires { (m : R.Move) → Contains moves.now m → R.rules.check position.now m ≡ Ok tt }
-    ensures { IfOk result (λ texts. map (λ t. string_bytes t) texts.items
-        ≡ map (R.rules.write_move position.now) moves.now) }
-{
-    let mut texts = Vec::new(alloc);
-    for made in moves {
-        texts.push(R::write_move(alloc, position, made)?)?;
-    }
-    Ok(texts)
-}
-
 fn end_named<R: Rules>(end: Option<R::End>) -> Option<EndName>
     ensures { result ≡ option_map R.rules.end_name end }
 {
@@ -158,7 +121,7 @@ fn moves_after<R: Rules>(
         return Ok(Vec::new(alloc));
     }
     let moves = R::legal(alloc, &line.last)?;
-    written::<R>(alloc, &line.last, &moves)
+    write_moves::<R>(alloc, &line.last, &moves)
 }
 
 // What is shown of a line.

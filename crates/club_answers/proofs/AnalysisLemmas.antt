@@ -41,7 +41,7 @@ use Rattle.club_changes.proofs.Proved.{stored_as}
 use Rattle.club_answers.specs.Analyses.{are_few, is_kind, IsRefusedAt, IsRefusedFor, IsRefusedFrom, IsRefusedIn}
 use Rattle.club_answers.specs.Analyses.{IsRefusedInGame, IsRefusedUnlessFew, IsShownAt, IsShownFrom, IsShownIn, IsShownInGame}
 use Rattle.club_answers.specs.internal.Analyses.{IsFew, same_kind}
-use Rattle.club_answers.specs.Viewed.{written_from}
+use Rattle.club_analysis.specs.Tried.{notation_from}
 use Rattle.club_answers.proofs.RunningLemmas.{written-length}
 use Rattle.club_answers.proofs.ViewedLemmas.{texts_are, texts_of}
 
@@ -50,7 +50,7 @@ module _ {P M E T : Type 0} (laws : GameRules P M E T) where
 
   -- legal moves that are written alike are alike
   written_once : ReadsBack laws → (p : P) (ms ns : List M) → IsLegalLine laws p ms → IsLegalLine laws p ns
-      → written_from laws p ms ≡ written_from laws p ns → ms ≡ ns
+      → notation_from laws p ms ≡ notation_from laws p ns → ms ≡ ns
   written_once back p [] [] one other same = refl
   written_once back p [] (n ∷ ns) one other same = cc
   written_once back p (m ∷ ms) [] one other same = cc
@@ -59,12 +59,12 @@ module _ {P M E T : Type 0} (laws : GameRules P M E T) where
       let read : ◌≡◌ {A = Result M MoveRefusal} (Ok m) (Ok n) = sym (back p m one.0)
       ∙ (ap (laws.read_move p) text ∙ back p n other.0) in
       let made : m ≡ n = cc in
-      let rest : written_from laws (laws.play p m) ms ≡ written_from laws (laws.play p n) ns = cc in
+      let rest : notation_from laws (laws.play p m) ms ≡ notation_from laws (laws.play p n) ns = cc in
       let later : ms ≡ ns = written_once back (laws.play p m) ms ns one.1 (rw (sym made) at other.1)
-      (rest ∙ ap (λ q. written_from laws (laws.play p q) ns) (sym made)) in
+      (rest ∙ ap (λ q. notation_from laws (laws.play p q) ns) (sym made)) in
       λ i. made i ∷ later i
 
-  written_take : (n : ℕ) (p : P) (ms : List M) → written_from laws p (take n ms) ≡ take n (written_from laws p ms)
+  written_take : (n : ℕ) (p : P) (ms : List M) → notation_from laws p (take n ms) ≡ take n (notation_from laws p ms)
   written_take zero p ms = refl
   written_take (suc n) p [] = refl
   written_take (suc n) p (m ∷ ms) = ap (λ l. laws.write_move p m ∷ l) (written_take n (laws.play p m) ms)
@@ -75,11 +75,11 @@ module _ {P M E T : Type 0} (laws : GameRules P M E T) where
     -- rows that were replayed have the notation of the line
     pub replayed_texts : {R : Type 0} (from : ℕ) (rows : List MoveRow) (replayed : Replayed R P M E T)
         → WasReplayed laws terms id from rows (length rows) replayed
-        → map (λ r. string_bytes r.text) rows ≡ written_from laws laws.start replayed.line.items
+        → map (λ r. string_bytes r.text) rows ≡ notation_from laws laws.start replayed.line.items
     replayed_texts from rows replayed was =
         let all = ap (map move_cells) (sym (take-length rows)) ∙ was.played.moves in
         texts_of laws terms id (at_start (game_from from was.entries)) was.entries rows all
-        ∙ ap (written_from laws laws.start) (sym was.replays.line)
+        ∙ ap (notation_from laws laws.start) (sym was.replays.line)
 
     module _ (game : Game M) (rows : List MoveRow) (same : HaveSame (map move_cells rows) (move_rows laws terms id game))
         (order : (n : ℕ) (row : MoveRow) → slice_get rows n ≡ Some row → row.ply ≡ pos (1 + n)) where
@@ -92,7 +92,7 @@ module _ {P M E T : Type 0} (laws : GameRules P M E T) where
       -- a line with the notation of the first rows has the first moves of the game
       pub line_is : ReadsBack laws → IsLegalGame laws terms game → (ply : ℕ) (line : List M)
           → IsLegalLine laws laws.start line
-          → map (λ r. string_bytes r.text) (take ply rows) ≡ written_from laws laws.start line
+          → map (λ r. string_bytes r.text) (take ply rows) ≡ notation_from laws laws.start line
           → line ≡ take ply (moves_of game)
       line_is back legal ply line is_legal told =
           let first = sym told ∙ sym (take-map (λ (r : MoveRow). string_bytes r.text) ply rows)

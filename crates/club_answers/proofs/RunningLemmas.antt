@@ -22,7 +22,7 @@ use Rattle.club_lists.specs.GameSummary.{Running}
 use Rattle.club_lists.specs.internal.SummaryViews.{running_view}
 use Rattle.club_lists.specs.declared.game_entry.RunningGame.{RunningGame}
 use Rattle.club_answers.specs.Running.{AreRunningAt, last_text, position_in, running_of}
-use Rattle.club_answers.specs.Viewed.{written_from}
+use Rattle.club_analysis.specs.Tried.{notation_from}
 use Rattle.club_answers.proofs.ToldRows.{told_push}
 
 module _ {P M E T : Type 0} (laws : GameRules P M E T) (terms : Terms) (id : ℕ) where
@@ -30,7 +30,7 @@ module _ {P M E T : Type 0} (laws : GameRules P M E T) (terms : Terms) (id : ℕ
   row_text : (game : Game M) (es : List (Entry M)) (n : ℕ) (row : Option MoveRow)
       → option_map move_cells row ≡ slice_get (entry_rows laws terms id game es) n
       → option_map (λ r. string_bytes r.text) row
-      ≡ slice_get (written_from laws (last_position laws game) (map (λ e. e.made) es)) n
+      ≡ slice_get (notation_from laws (last_position laws game) (map (λ e. e.made) es)) n
   row_text game [] n None same = refl
   row_text game [] n (Some row) same = cc
   row_text game (e ∷ es) zero None same = cc
@@ -40,29 +40,29 @@ module _ {P M E T : Type 0} (laws : GameRules P M E T) (terms : Terms) (id : ℕ
   row_text game (e ∷ es) (suc n) row same =
       rw (last-played laws game e.made e.moment) at (row_text (with_entry game e) es n row same)
 
-  pub written-length : (p : P) (ms : List M) → length (written_from laws p ms) ≡ length ms
+  pub written-length : (p : P) (ms : List M) → length (notation_from laws p ms) ≡ length ms
   written-length p [] = refl
   written-length p (m ∷ ms) = ap suc (written-length (laws.play p m) ms)
 
-  nothing : (ms : List M) → length ms ≡ 0 → None ≡ last_text (written_from laws laws.start ms)
+  nothing : (ms : List M) → length ms ≡ 0 → None ≡ last_text (notation_from laws laws.start ms)
   nothing [] none = refl
   nothing (m ∷ ms) none = absurd (omega (arith, none))
 
   -- the row of the last ply has the text of the last move
   pub last_is : (game : Game M) (plies : ℕ) (row : Option MoveRow) → plies ≡ length game.entries
       → option_map move_cells row ≡ row_at laws terms id game plies
-      → option_map (λ r. string_bytes r.text) row ≡ last_text (written_from laws laws.start (moves_of game))
+      → option_map (λ r. string_bytes r.text) row ≡ last_text (notation_from laws laws.start (moves_of game))
   last_is game zero None count same =
       let made : length (moves_of game) ≡ length game.entries = simp length-map in
       nothing (moves_of game) (made ∙ sym count)
   last_is game zero (Some row) count same = cc
   last_is game (suc n) row count same =
       let made : length (moves_of game) ≡ length game.entries = simp length-map in
-      let all : length (written_from laws laws.start (moves_of game)) ≡ suc n =
+      let all : length (notation_from laws laws.start (moves_of game)) ≡ suc n =
       written-length laws.start (moves_of game) ∙ (made ∙ sym count) in
-      let last : length (written_from laws laws.start (moves_of game)) - 1 ≡ n = omega (arith, all) in
+      let last : length (notation_from laws laws.start (moves_of game)) - 1 ≡ n = omega (arith, all) in
       row_text (at_start game) game.entries n row same
-      ∙ ap (slice_get (written_from laws laws.start (moves_of game))) (sym last)
+      ∙ ap (slice_get (notation_from laws laws.start (moves_of game))) (sym last)
 
 -- the row of a game has the text of its position
 pub position_is : (s : ClubState) (id : ℕ) (game : ClubGame) (row : GameTableRow) → game_cells row ≡ game_in s id game

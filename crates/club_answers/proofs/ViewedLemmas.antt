@@ -38,7 +38,7 @@ use Rattle.club_changes.proofs.Proved.{of_game, in_table, id_of, ply_is, ids_agr
 use Rattle.club_changes.proofs.Proved.{moves_had, pos_same, stored_as, take_next, tells_moves, tells-seen}
 use Rattle.club_answers.specs.Exported.{IsTitleOf}
 use Rattle.club_answers.specs.internal.Exported.{AddsNamed, BeginsNamed, IsTitleBy}
-use Rattle.club_answers.specs.Viewed.{written_from}
+use Rattle.club_analysis.specs.Tried.{notation_from}
 use Rattle.club_answers.specs.declared.exported.RecordNames.{RecordNames}
 
 -- ---- the rows of a game's moves
@@ -80,7 +80,7 @@ module _ {P M E T : Type 0} (laws : GameRules P M E T) (terms : Terms) (id : ℕ
   -- the texts of rows of entries, one after another
   pub texts_of : (game : Game M) (es : List (Entry M)) (rows : List MoveRow)
       → map move_cells rows ≡ entry_rows laws terms id game es
-      → map (λ r. string_bytes r.text) rows ≡ written_from laws (last_position laws game) (map (λ e. e.made) es)
+      → map (λ r. string_bytes r.text) rows ≡ notation_from laws (last_position laws game) (map (λ e. e.made) es)
   texts_of game [] [] same = refl
   texts_of game (e ∷ es) (r ∷ rows) same =
       let text : string_bytes r.text ≡ laws.write_move (last_position laws game) e.made = cc in
@@ -92,7 +92,7 @@ module _ {P M E T : Type 0} (laws : GameRules P M E T) (terms : Terms) (id : ℕ
   -- rows that are the game's, and stand in the order of their plies
   pub texts_are : (game : Game M) (rows : List MoveRow) → HaveSame (map move_cells rows) (move_rows laws terms id game)
       → ((n : ℕ) (row : MoveRow) → slice_get rows n ≡ Some row → row.ply ≡ pos (1 + n))
-      → map (λ r. string_bytes r.text) rows ≡ written_from laws laws.start (moves_of game)
+      → map (λ r. string_bytes r.text) rows ≡ notation_from laws laws.start (moves_of game)
   texts_are game rows same order =
       texts_of (at_start game) game.entries rows
       (one_line 1 (map move_cells rows) (move_rows laws terms id game) (λ n z. at_place n z rows n (order n))

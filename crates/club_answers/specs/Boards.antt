@@ -6,7 +6,7 @@ use Rattle.club_core.specs.Game.{last_position, moves_of}
 use Rattle.club_core.specs.declared.seats.Pairing.{Pairing}
 use Rattle.club_core.specs.State.{draughts, shogi, place, kind_at, pairing_of}
 use Rattle.club_rows.specs.Club.{ClubGame, ClubState, both_games}
-use Rattle.club_answers.specs.Viewed.{written_from}
+use Rattle.club_analysis.specs.Tried.{notation_from}
 use Rattle.diagrams.specs.BodDiagram.{bod_text}
 use Rattle.diagrams.specs.DraughtsDiagram.{diagram_text}
 use Rattle.diagrams.specs.ShogiDiagram.{shogi_text}
@@ -30,8 +30,8 @@ diagram_of letters (shogi game) = shogi_diagram letters (last_position both_game
 
 -- the moves, each in the notation for the position in which it was made
 abbrev pub moves_in : ClubGame → List (List ℕ)
-moves_in (draughts game) = written_from both_games.draughts both_games.draughts.start (moves_of game)
-moves_in (shogi game) = written_from both_games.shogi both_games.shogi.start (moves_of game)
+moves_in (draughts game) = notation_from both_games.draughts both_games.draughts.start (moves_of game)
+moves_in (shogi game) = notation_from both_games.shogi both_games.shogi.start (moves_of game)
 
 -- all that is shown of the game beside its entry in lists
 abbrev pub board_with : ClubState → Pairing → (diagram : List ℕ) → (moves : List (List ℕ)) → Board

@@ -1,5 +1,5 @@
 -- A game as members see it: players, event, and the state of play.
-use Rattle.std.specs.Prelude.{◌≡◌, ℕ, List, [], ◌∷◌, length, map, Option, Some, None, string_bytes}
+use Rattle.std.specs.Prelude.{◌≡◌, ℕ, List, length, map, Option, Some, None, string_bytes}
 use Rattle.std.specs.Option.{option_map}
 use Rattle.club_rules.specs.GameRules.{GameRules}
 use Rattle.club_rules.specs.declared.names.EndName.{EndName}
@@ -8,6 +8,7 @@ use Rattle.club_core.specs.declared.rows.GameEnd.TheVariants.{Rule, Outside}
 use Rattle.club_core.specs.Events.{Terms}
 use Rattle.club_core.specs.Game.{Game, clocks_of, moves_of, last_position, end_of, result_of}
 use Rattle.club_core.specs.State.{draughts, shogi, place, terms_at, pairing_of}
+use Rattle.club_analysis.specs.Tried.{notation_from}
 use Rattle.club_rows.specs.Club.{ClubGame, ClubState, both_games}
 use Rattle.club_answers.specs.declared.viewed.GameProgress.{GameProgress}
 use Rattle.club_answers.specs.declared.viewed.ViewedGame.{ViewedGame}
@@ -18,18 +19,13 @@ named rules (Rule e) = Rule (rules.end_name e)
 named rules (Outside o) = Outside o
 
 module _ {P M E T : Type 0} (rules : GameRules P M E T) where
-  -- the moves from a position, each in the notation for the position in which it is made
-  abbrev pub written_from : P → List M → List (List ℕ)
-  written_from p [] = []
-  written_from p (m ∷ ms) = rules.write_move p m ∷ written_from (rules.play p m) ms
-
   -- the state of play is that of the game
   pub record IsPlayed (terms : Terms) (game : Game M) (played : GameProgress) : Type 0 where
     pub ply : played.ply ≡ length game.entries
     pub left_first : played.left_first ≡ (clocks_of game terms).left_first
     pub left_second : played.left_second ≡ (clocks_of game terms).left_second
     pub position : string_bytes played.position ≡ rules.write_position (last_position rules game)
-    pub moves : map (λ t. string_bytes t) played.moves.items ≡ written_from rules.start (moves_of game)
+    pub moves : map (λ t. string_bytes t) played.moves.items ≡ notation_from rules rules.start (moves_of game)
     pub offer : played.offer ≡ option_map (λ o. o.side) game.offer
     pub end : played.end ≡ option_map (named rules) (end_of rules game)
     pub result : played.result ≡ result_of rules game

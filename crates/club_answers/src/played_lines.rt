@@ -13,7 +13,7 @@ ghost use Rattle.club_rows.specs.internal.Replay.{terms_given};
 ghost use Rattle.club_changes.specs.Steps.{IsRecordOf};
 ghost use Rattle.club_changes.specs.internal.Steps.{TellsLine};
 ghost use Rattle.club_answers.specs.internal.Analyses.{IsLineAt};
-ghost use Rattle.club_answers.specs.Viewed.{written_from};
+ghost use Rattle.club_analysis.specs.Tried.{notation_from};
 
 use crate::viewed::{line, texts};
 use club_analysis::{Line, line_of_moves};
@@ -37,7 +37,7 @@ fn replayed<R: Rules>(
         ≡ position_after R.rules R.rules.start game.line.items) }
     ensures few { IfOk result (λ game. length game.line.items ≤ 600) }
     ensures texts { IfOk result (λ game. map (λ r. string_bytes r.text) rows.now
-        ≡ written_from R.rules R.rules.start game.line.items) }
+        ≡ notation_from R.rules R.rules.start game.line.items) }
 {
     let Some(from) = to_moment(stored.row.start) else {
         return Err(LookupFault::Store);

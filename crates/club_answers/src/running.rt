@@ -17,7 +17,7 @@ ghost use Rattle.club_lists.specs.internal.SummaryViews.{running_view};
 ghost use Rattle.club_answers.specs.Boards.{moves_in};
 ghost use Rattle.club_answers.specs.Games.{game_summary_of};
 ghost use Rattle.club_answers.specs.Running.{AreRunningAt, last_text, running_of};
-ghost use Rattle.club_answers.specs.Viewed.{written_from};
+ghost use Rattle.club_analysis.specs.Tried.{notation_from};
 
 use crate::games::entry_of;
 use crate::kinds::last_in;
@@ -39,7 +39,7 @@ pub(crate) fn last_move<R: Rules, S: Alter>(
     ensures last { HasCleanDisk (state S.Store conn.new) → IfOk result (λ text. (content : Content)
         (game : Game R.Move) → plies ≡ length game.entries → HasRows content (state S.Store conn.old) →
         FindsMoveRows R.rules (terms_given stored.now.terms) stored.now.id game content →
-        option_map string_bytes text ≡ last_text (written_from R.rules R.rules.start (moves_of game))) }
+        option_map string_bytes text ≡ last_text (notation_from R.rules R.rules.start (moves_of game))) }
 {
     match row_of::<R, S>(alloc, conn, stored.id, plies)? {
         Some(row) => Ok(Some(row.text)),

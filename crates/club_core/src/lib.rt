@@ -7,6 +7,7 @@
 //! - `add_member`, `add_event`, `seat`: adding a member or an event and seating a game are steps of the state machine.
 //! - `open_challenge`, `withdraw`, `answer_challenge`: opening, withdrawing and answering a challenge are steps too,
 //!   with the challenge as it will be stored.
+//! - `read_legal` (`value`, `legal`): a text is read as its move, if that is legal in the position.
 #![tactic(auto)]
 
 pub mod challenges;
@@ -32,6 +33,7 @@ pub use decided::Decision;
 pub use decisions::{asked_ply, decide, refusal_without_game};
 pub use events::{Event, add_event, event_declares};
 pub use members::{Member, add_member, identify};
+pub use moves::read_legal;
 pub use rows::{Asked, GameEnd, GameRow, GameView, Made, Offer};
 pub use seats::{
     KeyedGame, NamedPairing, Pairing, SeatDecision, StoredGames, keyless_row, seat, seated_row,

@@ -37,7 +37,11 @@ fn reads_as<R: Rules>(
 }
 
 /// Reads a move's text and checks that the move is legal.
-fn read_legal<R: Rules>(
+///
+/// # Errors
+///
+/// `Memory` if out of memory.
+pub fn read_legal<R: Rules>(
     alloc: Global,
     position: &R::Position,
     text: &str,

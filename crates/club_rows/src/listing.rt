@@ -1,30 +1,13 @@
 //! The legal moves of a game in notation.
 
-ghost use Rattle.std.specs.Prelude.{◌≡◌, Ok, IfOk, Contains, map, string_bytes};
+ghost use Rattle.std.specs.Prelude.{IfOk, map, string_bytes};
 ghost use Rattle.club_core.specs.Game.{Game};
 ghost use Rattle.club_core.specs.View.{Shows};
 ghost use Rattle.club_rows.specs.Listed.{AreLegalTexts};
 
 use club_core::GameView;
-use club_rules::{Memory, Rules};
+use club_rules::{Memory, Rules, write_moves};
 use std::alloc::Global;
-
-// The notation of each move in the position.
-fn written<R: Rules>(
-    alloc: Global,
-    position: &R::Position,
-    moves: &[R::Move],
-) -> Result<Vec<String>, Memory>
-    requires { (m : R.Move) → Contains moves.now m → R.rules.check position.now m ≡ Ok tt }
-    ensures { IfOk result (λ texts. map (λ t. string_bytes t) texts.items
-        ≡ map (R.rules.write_move position.now) moves.now) }
-{
-    let mut texts = Vec::new(alloc);
-    for made in moves {
-        texts.push(R::write_move(alloc, position, made)?)?;
-    }
-    Ok(texts)
-}
 
 /// Returns the legal moves of the game in notation, in the order of the rules; empty if the game has ended.
 ///
@@ -39,6 +22,5 @@ pub fn legal_texts<R: Rules>(alloc: Global, view: &GameView<R>) -> Result<Vec<St
         return Ok(Vec::new(alloc));
     }
     let moves = R::legal(alloc, &view.position)?;
-    let texts = written::<R>(alloc, &view.position, &moves)?;
-    Ok(texts)
+    write_moves::<R>(alloc, &view.position, &moves)
 }

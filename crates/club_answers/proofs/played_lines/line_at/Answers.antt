@@ -1,6 +1,6 @@
 use Rattle.std.proofs.Common.{◌≡◌, arith, ap, length, map, rules, string_bytes, take, ◌∙◌}
 use Rattle.club_rows.specs.internal.Replay.{terms_given}
-use Rattle.club_answers.specs.Viewed.{written_from}
+use Rattle.club_analysis.specs.Tried.{notation_from}
 use Rattle.club_answers.proofs.AnalysisLemmas.{line_is, rows_count}
 use Rattle.club_answers.proofs.played_lines.line_at.Goals as goal
 
@@ -23,7 +23,7 @@ returns-clause-moves g c clean content game k tells of =
     let count = rows_count laws terms c.args.stored.now.id game rows same order in
     let len : c.len.result ≡ length rows = search rules in
     let line = c.in_ok-played.played.line.items in
-    let told : map (λ r. string_bytes r.text) (take c.args.ply rows) ≡ written_from laws laws.start line
+    let told : map (λ r. string_bytes r.text) (take c.args.ply rows) ≡ notation_from laws laws.start line
     = rw c.deref-2.ensures.value at c.in_ok-played.ensures.texts in
     let moves = line_is laws terms c.args.stored.now.id game rows same order g.met.R.Rules.reads_back of.legal
     c.args.ply line c.in_ok-played.ensures.played.legal told in

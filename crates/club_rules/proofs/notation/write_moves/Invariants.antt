@@ -1,5 +1,5 @@
 use Rattle.std.specs.Prelude.{◌≡◌, map, take, string_bytes}
-use Rattle.club_analysis.proofs.tried.written.Given as goal
+use Rattle.club_rules.proofs.notation.write_moves.Given as goal
 
 abbrev pub invariant-loop-made : goal.invariant-loop-made
 invariant-loop-made g l = map (λ t. string_bytes t) l.texts.items
