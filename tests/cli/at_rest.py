@@ -18,7 +18,7 @@ import tempfile
 import time
 
 sys.path[0] = str(pathlib.Path(__file__).resolve().parents[1])
-from lib.club import DRAUGHTS_MOVES, TABLES, club, create, limit_files_to, move, read_tables
+from lib.club import DRAUGHTS_MOVES, TABLES, WAIT, club, create, limit_files_to, move, read_tables
 from lib.report import check, exit_status
 from lib.server import serve, unavailable
 
@@ -376,6 +376,28 @@ def no_log_is_left():
     check("a backup that does not fit leaves no log", ((3, "store 77 Output"), []), (said, logs()))
     pathlib.Path("rest.db-wal").touch(0o600)
     check("a log that was there stays", (0, ["rest.db-wal"]), (club("rest.db", "sweep")[0], logs()))
+    os.remove("rest.db-wal")
+
+
+def server_leaves_no_log():
+    """A server that ends by itself, or gives its file up, leaves no log behind a file that had none."""
+    create("rest_served.db")
+    with serve("rest_served.db", "--count", "2", now=1000) as server:
+        check("a served move is accepted", (200, 200), (server.move(1)[0], server.show()[0]))
+        check("the server ends after two connections", 0, server.process.wait(WAIT))
+    check("a server that has ended leaves no log", [], logs())
+    check("the move is in the file alone", (0, "accepted ply 2 19-23"), club("rest_served.db", "move", "1", "2", "19-23"))
+    with serve("rest_served.db", now=1000) as server:
+        server.show()
+        check("a server that holds the file has a log", ["rest_served.db-wal"], logs())
+        server.release("rest_served.db")
+        check("a server that has given the file up leaves no log", [], logs())
+    pathlib.Path("rest_served.db-wal").touch(0o600)
+    with serve("rest_served.db", "--count", "1", now=1000) as server:
+        check("a game is shown beside a log that was there", 200, server.show()[0])
+        server.process.wait(WAIT)
+    check("a server leaves a log that was there", ["rest_served.db-wal"], logs())
+    os.remove("rest_served.db-wal")
 
 
 def shows_move(server):
@@ -390,12 +412,10 @@ def move_away_while_served():
     with serve("away.db", now=None) as server:
         check("the server shows the game before its file is moved", (200, True), shows_move(server))
         server.release("away.db")
-        for end in ("", "-wal"):
-            os.replace(f"away.db{end}", f"aside.db{end}")
+        os.replace("away.db", "aside.db")
         check("a file that was moved away is fault 70", unavailable(70), server.show())
         check("no file is created in its place", False, os.path.exists("away.db") or os.path.exists("away.db-wal"))
-        for end in ("", "-wal"):
-            os.replace(f"aside.db{end}", f"away.db{end}")
+        os.replace("aside.db", "away.db")
         time.sleep(2.5)  # the server tries the file again
         check("the server shows the game once the file is back", (200, True), shows_move(server))
 
@@ -413,6 +433,7 @@ def main():
         beside_foreign_tables()
         log_has_mode_of_file()
         no_log_is_left()
+        server_leaves_no_log()
         move_away_while_served()
     return exit_status()
 

@@ -275,21 +275,45 @@ fn open_without_orders(rt: &HostRuntime, robin: RoundRobin) -> Result<(), Report
     }
 }
 
-// Prints why a round robin was not seated. A fault of the file comes before a refusal.
+fn is_refusal(unbegun: &Unbegun) -> bool {
+    match unbegun {
+        Unbegun::Report(report) => report.status() == REFUSED,
+        _ => false,
+    }
+}
+
+// Prints a fault, and lets it go.
+fn print_fault(rt: &HostRuntime, report: Report, explains: bool) -> u8
+    ensures { result ≤ 3 }
+{
+    let status = print_report(rt, &Task::Verify, &report, explains);
+    drop(report);
+    status
+}
+
+// Prints a refusal, unless the file of the round robin has a fault: that comes first.
+fn print_refusal(rt: &HostRuntime, robin: RoundRobin, refusal: Unbegun, explains: bool) -> u8
+    ensures { result ≤ 3 }
+{
+    match open_without_orders(rt, robin) {
+        Ok(()) => print_unbegun(rt, refusal, explains),
+        Err(report) => {
+            drop(refusal);
+            print_fault(rt, report, explains)
+        }
+    }
+}
+
+// Prints why a round robin was not seated.
 fn print_unseated(rt: &HostRuntime, robin: RoundRobin, unbegun: Unbegun) -> u8
     ensures { result ≤ 3 }
 {
     let explains = robin.explains;
-    let is_refusal = match &unbegun {
-        Unbegun::Report(report) => report.status() == REFUSED,
-        _ => false,
-    };
-    if !is_refusal || robin.is_dry {
-        return print_unbegun(rt, unbegun, explains);
-    }
-    match open_without_orders(rt, robin) {
-        Ok(()) => print_unbegun(rt, unbegun, explains),
-        Err(report) => print_report(rt, &Task::Verify, &report, explains),
+    if is_refusal(&unbegun) && !robin.is_dry {
+        print_refusal(rt, robin, unbegun, explains)
+    } else {
+        drop(robin);
+        print_unbegun(rt, unbegun, explains)
     }
 }
 

@@ -7,7 +7,7 @@ use crate::orders::run_order_on_file;
 use crate::printing::{print_report, print_without_room};
 use cli::{Order, ServeOptions, Task};
 use club_orders::{DONE, Report};
-use club_session::{discard_files, serve_files};
+use club_session::{has_log, release_files, serve_files};
 use control_socket::{FileLease, request_lease};
 use http_desk::ClubFault;
 use server::{Server, ServerOptions, serve_unavailable};
@@ -36,11 +36,13 @@ fn ask_or_open(rt: &HostRuntime, file: &str, callers: &mut Server<'_>) -> Option
     leave
 }
 
-// Runs one serving session.
+// Runs one serving session. It leaves no log behind a file that had none.
 fn serve_stretch(rt: &HostRuntime, file: &str, callers: &mut Server<'_>) -> AfterSession {
     let _leave = ask_or_open(rt, file, callers);
     callers.begin();
-    after_session(discard_files(serve_files(rt, file, Wary, callers)))
+    let had_log = has_log(rt, file);
+    let session = serve_files(rt, file, Wary, callers);
+    after_session(release_files(rt, file, had_log, session))
 }
 
 // Answers requests with the fault: those that are ready, and for a lasting fault also those that follow for a while.

@@ -76,23 +76,12 @@ mod serving_session;
 mod shown;
 mod unread;
 
-ghost use Rattle.std.specs.Prelude.{◌≡◌};
-
 pub use copying::{BackupResult, back_up};
 pub use opening::RepeatableStart;
 pub use order::{execute_order, open_files};
 pub use preflight::has_log;
 pub use releasing::release_files;
 pub use serving_session::serve_files;
-use sqlite::{FileFrom, FileStore};
-use sqlite_disk::Start;
-
-/// Drops the store, if the files were opened, and returns the result.
-pub fn discard_files<T, S: Start>(done: (T, Option<FileStore<FileFrom<S>>>)) -> T
-    ensures { result ≡ done.0 }
-{
-    done.0
-}
 
 pub use desk_club::DeskClub;
 pub use faults::fault_of_opening;
