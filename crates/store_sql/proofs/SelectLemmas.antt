@@ -1,10 +1,18 @@
 -- What the texts of a table tell of a call.
 use Rattle.std.proofs.Common.{◌≡◌, ℕ, ℤ, ◌<◌, List, [], ◌∷◌, map, length, Result, Ok, Err, refl, ap, sym, subst, subst₂}
-use Rattle.std.proofs.Common.{◌∙◌, arith, true≢false, Ordering}
+use Rattle.std.proofs.Common.{◌∙◌, arith, true≢false, Ordering, pos, get_or, suc, ◌+◌, is_lt, inl, inr, ◌⊎◌, Bool, true}
+use Rattle.std.proofs.Common.{Some, None, rules, ◌<ℤ◌}
 use Rattle.std.specs.Result.{OnOk}
 use Rattle.std.proofs.lemmas.List.Sorted.{length_permutation}
 use Rattle.std.proofs.lemmas.Result.{IfOk-weaker}
-use Rattle.std.specs.declared.cmp.Ordering.TheVariants.{Equal}
+use Rattle.std.specs.declared.cmp.Ordering.TheVariants.{Equal, Less}
+use Rattle.std.specs.Cmp.{int_cmp_is}
+use Rattle.std.proofs.lemmas.List.Sorted.{sorted_far, ranks_by}
+use Rattle.sqlite_value.specs.Order.{value_cmp}
+use Rattle.sqlite.specs.Collation.TheVariants.{Binary}
+use Rattle.sqlite_value.specs.declared.keys.Key.{Key}
+use Rattle.sqlite_value.proofs.OrderLemmas.{value_cmp-Int}
+use Rattle.sqlite_sql.proofs.QueryLemmas.{key_cmp_total}
 use Rattle.std.specs.Prelude.{IfOk, IfErr, OnErr, IsTrue, is_ok, ◌≢◌, false}
 use Rattle.std.specs.List.Sorted.{IsPermutation, IsSorted}
 use Rattle.sqlite_rules.proofs.ListLemmas.{all_has}
@@ -13,7 +21,8 @@ use Rattle.store_tables.specs.Sql.{Row, column, Table, Trees, Schema, State, Sho
 use Rattle.store_tables.specs.Sql.{Has, rowid, understood}
 use Rattle.sqlite.specs.declared.types.Value.TheVariants.{Int}
 use Rattle.sqlite.specs.declared.error.Error.{Error}
-use Rattle.sqlite.specs.State.{FailsToQuery, CommitsShowing}
+use Rattle.sqlite.specs.State.{FailsToQuery, CommitsShowing, IsRolledBack, QueriesRow}
+use Rattle.sqlite.specs.declared.error.Error.TheVariants.{QueryReturnedNoRows}
 use Rattle.sqlite.proofs.Callers.{IsPlain, reads_as}
 use Rattle.store_tables.specs.Over.{HasRows}
 use Rattle.store_tables.specs.Placed.{HasTableAt, club_trees}
@@ -24,21 +33,23 @@ use Rattle.store_tables.specs.Contents.{Content, Stores}
 use Rattle.store_tables.specs.internal.Contents.{AreThose}
 use Rattle.store_tables.specs.internal.Queries.{AreShownBy, Finds, IsSelect, by_others}
 use Rattle.store_tables.specs.Reading.{KeepsContent, KeepsMay, Reads}
-use Rattle.store_tables.specs.internal.Reading.{by_columns, ReturnsRows, TellsIds, IsNoInput}
+use Rattle.store_tables.specs.internal.Reading.{by_columns, by_first_falling, ReturnsRows, TellsIds, IsNoInput}
 use Rattle.store_tables.proofs.Proved.{select_unchanged, only_reads, reads_by, unchanged_exactly, tells, tells_ids}
-use Rattle.store_tables.proofs.Proved.{tells_first, finds, no_input, ids_of, each_shown, one_list, sorted_rows, has_map}
+use Rattle.store_tables.proofs.Proved.{has_index, no_missing, only_left, row_of_whole, select_fails}
+use Rattle.store_tables.proofs.Proved.{finds, no_input, ids_of, each_shown, one_list, sorted_rows, has_map}
 use Rattle.store_tables.proofs.Proved.{in_order as in_order_by}
-use Rattle.store_tables.proofs.Proved.{places_rise, same_length, got, alone_takes, in_all, rows_standing, rows_stored}
-use Rattle.store_tables.proofs.Proved.{cells_are, keeps_moved, told_here, tree_is, trees_here}
+use Rattle.store_tables.proofs.Proved.{places_rise, same_length, alone_takes, in_all, rows_standing, rows_stored}
+use Rattle.store_tables.proofs.Proved.{cells_are, told_here, tree_is, trees_here}
 use Rattle.store_tables.specs.Tables.{club_schema, made_as, standing}
-use Rattle.store_tables.specs.internal.Texts.{all_text, ids_text, by_column_text, by_first_text, question_text}
+use Rattle.store_tables.specs.internal.Texts.{all_text, ids_text, by_column_text, by_first_text, last_text}
+use Rattle.store_tables.specs.internal.Texts.{question_text}
 use Rattle.store_tables.specs.Names.{in_order, tree_of}
 use Rattle.store_tables.specs.declared.names.Table as of_club
 use Rattle.store_tables.specs.declared.names.Table.TheVariants.{Meta}
 use Rattle.store_sql.specs.declared.fault.ReadFault.{ReadFault}
 use Rattle.store_sql.specs.declared.fault.ReadFault.TheVariants.{WrongType}
 use Rattle.store_sql.specs.Read.{beginning_with}
-use Rattle.store_sql.specs.internal.Read.{AreReadOf, BeginWithPlaces, was_read}
+use Rattle.store_sql.specs.internal.Read.{AreReadOf, BeginWithPlaces, IsLast, was_read}
 use Rattle.store_sql.proofs.GroupLemmas.{each_found}
 
 -- a connection that only read, and answered, holds what it held
@@ -88,6 +99,91 @@ pub known : {sql text : List ℕ} (old new : State) → sql ≡ text → IsPlain
 known {sql = sql} old new is plain params e =
     no_input old.now.schema sql params old new e
     (subst (λ s. IsPlain (understood old.now.schema s)) (sym is) plain) refl
+
+-- ---- a call for one row
+
+-- it found a row, or that there is none
+abbrev pub was_found : Result Row Error → Bool
+was_found (Ok row) = true
+was_found (Err QueryReturnedNoRows) = true
+was_found (Err fault) = false
+
+module _ {text : List ℕ} (is_select : IsSelect text) (sql : List ℕ) (is : sql ≡ text) (params : Row)
+    (old new : State) where
+  select_is : IsSelect sql
+  select_is = subst IsSelect (sym is) is_select
+
+  found_unchanged : (r : Result Row Error) → IsTrue (was_found r) → QueriesRow sql params old new r
+      → IsUnchanged old new
+  unfolding QueriesRow
+  found_unchanged (Ok row) found (inl begun) = begun.1
+  found_unchanged (Ok row) found (inr it) = select_unchanged sql select_is params old new it.0 it.1
+  found_unchanged (Err QueryReturnedNoRows) found (inl failed) =
+      absurd (no_missing sql select_is params old new QueryReturnedNoRows failed refl)
+  found_unchanged (Err QueryReturnedNoRows) found (inr it) = select_unchanged sql select_is params old new [] it.1
+  found_unchanged (Err fault) found it = absurd (true≢false (sym found))
+
+  row_left : (r : Result Row Error) → QueriesRow sql params old new r → IsUnchanged old new ⊎ IsRolledBack old new
+  unfolding QueriesRow
+  row_left (Ok row) it = inl (found_unchanged (Ok row) refl it)
+  row_left (Err fault) (inl failed) = select_fails sql select_is params old new fault failed
+  row_left (Err fault) (inr it) = inl (select_unchanged sql select_is params old new [] it.1)
+
+  pub row_reads : (r : Result Row Error) → (old.in_transaction ≡ false → new.in_transaction ≡ false)
+      → Survives old new (CommitsShowing sql params old) → (HasCleanDisk new → QueriesRow sql params old new r)
+      → Reads (was_found r) old new
+  row_reads r mode survives queries =
+      let only = only_left sql select_is params old new mode survives (λ clean. row_left r (queries clean)) in
+      reads_by (was_found r) old new only (λ found clean.
+      keeps_content old new (found_unchanged r found (queries clean)) (only.may clean))
+
+  -- no row was found
+  pub none_shown : QueriesRow sql params old new (Err QueryReturnedNoRows) → Shown sql params old new []
+  unfolding QueriesRow
+  none_shown (inl failed) = absurd (no_missing sql select_is params old new QueryReturnedNoRows failed refl)
+  none_shown (inr it) = it.1
+
+-- ---- the last row
+
+placed : (xs : List Row) (x : Row) → Has xs x → (j : ℕ) × (j < length xs) × (x ≡ get_or xs j [])
+placed [] x h = absurd h
+placed (y ∷ xs) x (inl same) = (0, omega arith, same)
+placed (y ∷ xs) x (inr h) = let it = placed xs x h in (suc it.0, omega (arith, it.1), it.2)
+
+empty : (xs : List Row) → ((x : Row) → Has xs x → ⊥) → xs ≡ []
+empty [] none = refl
+empty (x ∷ xs) none = absurd (none x (inl refl))
+
+abbrev falling : List Key
+falling = record { collation = Binary; descending = true } ∷ []
+
+-- none that follows is above the first
+not_above : (row : Row) (tail : List Row) (x : Row) → IsSorted by_first_falling (row ∷ tail) → Has (row ∷ tail) x
+    → value_cmp (column row 0) (column x 0) ≢ Less
+not_above row tail x falls there less =
+    let (j, within, is) = placed (row ∷ tail) x there in
+    let far = sorted_far (λ a b. is_lt (by_first_falling a b)) (ranks_by (key_cmp_total falling 0) (λ a. a)) (row ∷ tail)
+    falls 0 j [] (omega arith) within in
+    let none : is_lt (by_first_falling x row) ≡ false = subst (λ a. is_lt (by_first_falling a row) ≡ false) (sym is) far in
+    let e = rw less at none in
+    true≢false e
+
+pos_less : (a b : ℕ) → a < b → pos a <ℤ pos b
+pos_less a b less = search rules
+
+-- where ids are places, the last row is at the place that is its id
+pub last_place : (rows : List Row) (row : Row) (n : ℕ) → BeginWithPlaces rows → IsLast rows (Some row)
+    → column row 0 ≡ Int (pos n) → n ≡ length rows
+last_place rows row n places (there, above) id =
+    let (j, within, is) = placed rows row there in
+    let here : Int (pos (j + 1)) ≡ Int (pos n) = sym (places j within) ∙ ap (λ r. column r 0) (sym is) ∙ id in
+    let same : j + 1 ≡ n = cc in
+    let top : ¬ (j + 1 < length rows) = λ more.
+    above (get_or rows (j + 1) []) (has_index rows (j + 1) [] more)
+    (subst₂ (λ a b. value_cmp a b ≡ Less) (sym id) (sym (places (j + 1) more))
+    (value_cmp-Int (pos n) (pos (j + 1 + 1))
+    ∙ sym (int_cmp_is (pos n) (pos (j + 1 + 1)) Less (pos_less n (j + 1 + 1) (omega (arith, same)))))) in
+    omega (arith, same, within, top)
 
 -- ---- the texts of a table are the same wherever it stands
 
@@ -190,11 +286,6 @@ pub failed_read : (e : ReadFault) (old new : State) → e ≢ WrongType → Read
 failed_read WrongType old new other reads = absurd (other refl)
 failed_read _ old new other reads = reads
 
-places_first : (rows : List Row) → BeginWithPlaces rows → BeginWithPlaces (map (λ r. column r 0 ∷ []) rows)
-places_first rows places k h =
-    let within : k < length rows = omega (arith, h, same_length (λ (r : Row). column r 0 ∷ []) rows) in
-    ap (λ r. column r 0) (got (λ (r : Row). column r 0 ∷ []) rows k [] [] within) ∙ places k within
-
 -- two lists of the rows of one table
 moved : (table : Table) (db : Trees) (xs ys : List Row) → Keeps table db xs → Keeps table db ys → (z : Row)
     → Has xs z → Has ys z
@@ -290,25 +381,37 @@ module _ {which : of_club.Table} {table : Table} {width : ℕ} (is_table : table
         (found_here which content old new k is.place (0 ∷ []) (Int n ∷ []) (Int n ∷ []) params _ _ (by_others width)
         (is.some n) (text ∙ ap by_first_text (moved_to which is_table stands.tree)) given survives clean rows shown)
 
-    -- the rowids that are shown are as many as the rows, where these begin with their places
-    pub counted : {sql : List ℕ} → sql ≡ ids_text table → ((r : Row) → column (cells table r) 0 ≡ rowid r)
-        → (rows : List Row) → Shown sql [] old new rows
-        → BeginWithPlaces (content table.tree) → length rows ≡ length (content table.tree)
-    counted text id rows shown places =
-        let tree = stands_now.tree in
-        let is = read old.now.schema stands_now in
-        let wanted = content table.tree in
-        let first : Row → Row = λ r. column r 0 ∷ [] in
-        let told = ids_told stands_now text rows shown in
-        let same = tells_first old.now.schema (made_as which tree) (ids_text (made_as which tree)) is.firsts is.numbers
-        (λ r. is.first r ∙ ap (λ v. v ∷ []) (sym (ap (λ x. column x 0) (alike tree r) ∙ id r))) old new rows wanted refl
-        (subst (λ s. Shown s [] old new rows) (text ∙ ap ids_text (moved_to which is_table tree)) shown)
-        (keeps_moved table (made_as which tree) (club_trees old.now) old.now.trees wanted wanted
-        (λ r. sym (alike tree r)) (sym (stored_rows stands_now)) refl stored.rows) in
-        let one : rows ≡ map first wanted = one_list rows (map first wanted)
-        (in_order_by rows told.sorted (told.ids stored.apart))
-        (places_rise (map first wanted) (places_first wanted places)) (λ z. (same z).0) (λ z. (same z).1) in
-        ap length one ∙ same_length first wanted
+    -- the rows by their first column, the greatest first
+    falling_found : {sql : List ℕ} → sql ≡ last_text table → Survives old new (CommitsShowing sql [] old)
+        → HasCleanDisk new → (rows : List Row) → Shown sql [] old new rows
+        → AreThose [] [] (content table.tree) rows × IsSorted by_first_falling rows
+    falling_found text survives clean rows shown =
+        let stands = (rows_standing content old k which).0 in
+        let is = read k.0 stands in
+        subst (λ (t : Table). AreThose [] [] (content t.tree) rows × IsSorted by_first_falling rows) (sym is_table)
+        (found_here which content old new k is.place [] [] [] [] _ _ by_first_falling is.last
+        (text ∙ ap last_text (moved_to which is_table stands.tree)) refl survives clean rows shown)
+
+    -- the last row, where one is given
+    pub last_found : {sql : List ℕ} → sql ≡ last_text table → Survives old new (CommitsShowing sql [] old)
+        → HasCleanDisk new → (row : Row) → QueriesRow sql [] old new (Ok row) → IsLast (content table.tree) (Some row)
+    last_found {sql = sql} text survives clean row given =
+        let finds = (read old.now.schema stands_now).last in
+        let known = text ∙ ap last_text (moved_to which is_table stands_now.tree) in
+        let whole = row_of_whole finds [] old new refl row
+        (subst (λ s. QueriesRow s [] old new (Ok row)) known given) in
+        let it = falling_found text survives clean (row ∷ whole.0)
+        (subst (λ s. Shown s [] old new (row ∷ whole.0)) (sym known) whole.1) in (
+          (it.0.sound row (inl refl)).0,
+          λ x there. not_above row whole.0 x it.1 (it.0.complete x there refl),
+        )
+
+    -- and where none is
+    pub none_found : {sql : List ℕ} → sql ≡ last_text table → Survives old new (CommitsShowing sql [] old)
+        → HasCleanDisk new → Shown sql [] old new [] → IsLast (content table.tree) None
+    none_found text survives clean shown =
+        let those = (falling_found text survives clean [] shown).0 in
+        empty (content table.tree) (λ x there. those.complete x there refl)
 
     -- a table is shown with the rows that it has
     pub same_rows : (shown : List Row)

@@ -1,10 +1,13 @@
 //! Reads the rows of a table, all or by their first column, as row types.
 //! Functions that return `ReadFault` serve a database that is not yet checked; those with `TableFault` an open club.
 
-ghost use Rattle.std.specs.Prelude.{◌≡◌, ◌≢◌, ◌⊎◌, IsTrue, IfOk, IfErr, OnOk, is_ok, All, [], ◌∷◌, map, length};
+ghost use Rattle.std.specs.Prelude.{◌≡◌, ◌≢◌, ◌⊎◌, true, IsTrue, IfOk, IfErr, OnOk, is_ok, All, [], ◌∷◌, map};
+ghost use Rattle.std.specs.Prelude.{length, pos};
 ghost use Rattle.std.specs.List.Sorted.{IsSorted};
+ghost use Rattle.sqlite.specs.Order.{column};
 ghost use Rattle.sqlite.specs.State.{HasCleanDisk, IsUnchanged};
 ghost use Rattle.sqlite.specs.Held.{state};
+ghost use Rattle.sqlite.specs.declared.error.Error.TheVariants.{QueryReturnedNoRows};
 ghost use Rattle.sqlite.specs.declared.types.Value.TheVariants.{Int};
 ghost use Rattle.store_tables.specs.Changes.{HaveSame};
 ghost use Rattle.store_tables.specs.Content.{AreApart};
@@ -14,7 +17,8 @@ ghost use Rattle.store_tables.specs.Placed.{HasTableAt, club_trees};
 ghost use Rattle.store_tables.specs.internal.Queries.{by_others};
 ghost use Rattle.store_tables.specs.Reading.{Reads};
 ghost use Rattle.store_tables.specs.internal.Reading.{AreIds, by_columns, IsNoInput, ReturnsRows, TellsIds};
-ghost use Rattle.store_sql.specs.internal.Read.{AreCounted, AreReadOf, IsReadAs, Blames, BeginWithPlaces, was_read};
+ghost use Rattle.store_sql.specs.internal.Read.{AreCounted, AreReadOf, IsLast, IsReadAs, Blames, BeginWithPlaces};
+ghost use Rattle.store_sql.specs.internal.Read.{was_read};
 
 use crate::fault::{ReadFault, TableFault, is_refused};
 use crate::texts::Select;
@@ -39,6 +43,34 @@ pub fn show_all<T: Select, S: Alter>(conn: &mut Connection<S>) -> Result<Vec<Row
     conn.query_all(T::table().all(), &[])
 }
 
+/// Whether a query for one row found none.
+fn has_no_row(error: &Error) -> bool
+    ensures none { result ≡ true → error.now ≡ QueryReturnedNoRows }
+{
+    match error {
+        Error::QueryReturnedNoRows => true,
+        _ => false,
+    }
+}
+
+/// Returns the values of the row with the greatest first column, if the table has a row.
+fn show_last<T: Select, S: Alter>(conn: &mut Connection<S>) -> Result<Option<Row>, Error>
+    ensures reads { Reads (is_ok result) (state S.Store conn.old) (state S.Store conn.new) }
+    ensures last { HasCleanDisk (state S.Store conn.new) → IfOk result (λ row. (content : _) →
+        HasRows content (state S.Store conn.old) → IsLast (content T.table.tree) row) }
+{
+    match conn.query_row(T::table().last(), &[]) {
+        Ok(row) => Ok(Some(row)),
+        Err(error) => {
+            if has_no_row(&error) {
+                Ok(None)
+            } else {
+                Err(error)
+            }
+        }
+    }
+}
+
 /// Returns the rowids of a table in ascending order.
 fn show_ids<T: Select, S: Alter>(conn: &mut Connection<S>) -> Result<Vec<Row>, Error>
     ensures reads { Reads (is_ok result) (state S.Store conn.old) (state S.Store conn.new) }
@@ -51,9 +83,6 @@ fn show_ids<T: Select, S: Alter>(conn: &mut Connection<S>) -> Result<Vec<Row>, E
     ensures number { HasCleanDisk (state S.Store conn.new) → IfOk result (λ rows.
         HasTableAt (state S.Store conn.old).now.schema T.which →
         length rows.items ≡ length (club_trees (state S.Store conn.old).now T.table.tree)) }
-    ensures count { HasCleanDisk (state S.Store conn.new) → IfOk result (λ rows. IsTrue T.has_id → (content : _) →
-        HasRows content (state S.Store conn.old) →
-        BeginWithPlaces (content T.table.tree) → length rows.items ≡ length (content T.table.tree)) }
 {
     conn.query_all(T::table().ids(), &[])
 }
@@ -304,11 +333,24 @@ pub fn find_by_first<T: Select, S: Alter>(
     }
 }
 
-/// Counts the rows of a table of an open club.
+/// The first value of a row, which numbers it from 1 on.
+fn place_in(row: &Row) -> Result<usize, TableFault>
+    ensures place { IfOk result (λ n. column row.now 0 ≡ Int (pos n)) }
+{
+    let Ok(id) = row.get::<i64>(0) else {
+        return Err(TableFault::Store);
+    };
+    match usize::try_from(id) {
+        Ok(place) => Ok(place),
+        Err(_) => Err(TableFault::Store),
+    }
+}
+
+/// Counts the rows of a table of an open club. Reads the last row alone.
 ///
 /// # Errors
 ///
-/// `Store` if a call of the database fails.
+/// `Store` if a call of the database fails, or the last id is not a positive integer.
 ///
 /// # Guarantees
 ///
@@ -319,8 +361,11 @@ pub fn count<T: Select, S: Alter>(conn: &mut Connection<S>) -> Result<usize, Tab
         HasRows content (state S.Store conn.old) →
         BeginWithPlaces (content T.table.tree) → n ≡ length (content T.table.tree)) }
 {
-    match show_ids::<T, S>(conn) {
-        Ok(ids) => Ok(ids.len()),
-        Err(_) => Err(TableFault::Store),
+    let Ok(last) = show_last::<T, S>(conn) else {
+        return Err(TableFault::Store);
+    };
+    match last {
+        Some(row) => place_in(&row),
+        None => Ok(0),
     }
 }

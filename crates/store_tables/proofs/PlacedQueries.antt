@@ -38,18 +38,28 @@ use Rattle.store_tables.proofs.PlacedTerms.{outputs_same, shown_written, sort_wr
 
 -- ---- the parts of a text
 
--- SELECT of columns FROM a table WHERE columns have given values ORDER BY columns
+-- SELECT of columns FROM a table WHERE columns have given values ORDER BY columns, each DESC if it `falls`
 pub record Asked : Type 0 where
   pub table : Name
   pub shown : List Name
   pub tested : List Name
   pub sorted : List Name
+  pub falls : Bool
   pub size : ℕ
+
+abbrev pub asked_in : Bool → Table → (shown tested sorted : List Name) → (sql : List ℕ) → Asked
+asked_in falls table shown tested sorted sql = record {
+  table = table.name;
+  shown = shown;
+  tested = tested;
+  sorted = sorted;
+  falls = falls;
+  size = length sql;
+}
 
 -- in this text of SQL, of which the table has the columns
 abbrev pub asked_of : Table → (shown tested sorted : List Name) → (sql : List ℕ) → Asked
-asked_of table shown tested sorted sql =
-    record { table = table.name; shown = shown; tested = tested; sorted = sorted; size = length sql }
+asked_of = asked_in false
 
 abbrev pub source_in : Asked → Source
 source_in a =
@@ -70,7 +80,7 @@ select_in a = roll-Select (record {
   with = [];
   first = core_in a;
   others = [];
-  order = map sort_written a.sorted;
+  order = map (sort_written a.falls) a.sorted;
   limit = None;
   offset = None;
 })
@@ -108,7 +118,7 @@ pub select_out : (a : Asked)
       with = [];
       first = core_in a;
       others = [];
-      order = map sort_written a.sorted;
+      order = map (sort_written a.falls) a.sorted;
       limit = None;
       offset = None;
     }
@@ -176,10 +186,10 @@ module _ (s : Schema) (a : Asked) where
 
   abbrev clauses_after : Body × State → Checked (Clauses × State)
   clauses_after w =
-      (sorts lower (inside s w.0.level (is_grouped w.1)) w.0.level.shown (map sort_written a.sorted)
+      (sorts lower (inside s w.0.level (is_grouped w.1)) w.0.level.shown (map (sort_written a.falls) a.sorted)
       >>= (λ order. pure (clauses_of w.0 (is_grouped w.1) order))) w.1
 
-  parts_so : parts s (core_in a) (map sort_written a.sorted) (fresh 1 max_budget)
+  parts_so : parts s (core_in a) (map (sort_written a.falls) a.sorted) (fresh 1 max_budget)
       ≡ and_then (body lower (outermost s) (core_in a) (fresh 1 max_budget)) clauses_after
   unfolding parts keys having tests sorts
   parts_so i =
@@ -187,7 +197,7 @@ module _ (s : Schema) (a : Asked) where
       let grouped = not (length (core_out a i).group == 0 && length w.1.aggregates == 0) in
       (keys lower (inside s w.0.level false) w.0.level.shown (core_out a i).group >>= (λ by.
       having (inside s w.0.level grouped) (core_out a i).having >>= (λ kept.
-      sorts lower (inside s w.0.level grouped) w.0.level.shown (map sort_written a.sorted) >>= (λ order.
+      sorts lower (inside s w.0.level grouped) w.0.level.shown (map (sort_written a.falls) a.sorted) >>= (λ order.
       pure (record {
         body = w.0;
         is_grouped = grouped;
@@ -201,17 +211,17 @@ module _ (s : Schema) (a : Asked) where
   named_from page found = and_then found (λ r. and_then (assembled false page.0 page.1 r.0 r.1)
       (λ d. Ok (d, map (λ o. o.name) r.0.body.level.shown, map (λ o. o.carried.collation) r.0.body.level.shown)))
 
-  named_so : (page : Term × Term) → named s (core_in a) (map sort_written a.sorted) page
-      ≡ named_from page (parts s (core_in a) (map sort_written a.sorted) (fresh 1 max_budget))
+  named_so : (page : Term × Term) → named s (core_in a) (map (sort_written a.falls) a.sorted) page
+      ≡ named_from page (parts s (core_in a) (map (sort_written a.falls) a.sorted) (fresh 1 max_budget))
   unfolding named
   named_so page i =
-      and_then (parts s (core_in a) (map sort_written a.sorted) (fresh 1 max_budget)) (λ r.
+      and_then (parts s (core_in a) (map (sort_written a.falls) a.sorted) (fresh 1 max_budget)) (λ r.
       and_then (assembled (core_out a i).distinct page.0 page.1 r.0 r.1)
       (λ d. Ok (d, map (λ o. o.name) r.0.body.level.shown, map (λ o. o.carried.collation) r.0.body.level.shown)))
 
   -- Where no table or view has the name, the text means nothing.
   pub named_none : table_named s a.table ≡ None → view_named s a.table ≡ None → (page : Term × Term)
-      → named s (core_in a) (map sort_written a.sorted) page ≡ Err NoSuchTable
+      → named s (core_in a) (map (sort_written a.falls) a.sorted) page ≡ Err NoSuchTable
   named_none no_table no_view page =
       named_so page
       ∙ (λ i. named_from page (parts_so i))
@@ -242,7 +252,7 @@ module _ (table : Table) (a : Asked) where
   abbrev clauses_by : ℕ → ℕ → List Output → List Term → State → Checked (Clauses × State)
   clauses_by place tree shown filter s =
       and_then (sorts_from lower (context_at (alone table) a.table 0 shown (is_grouped s)) shown []
-      (map sort_written a.sorted) s)
+      (map (sort_written a.falls) a.sorted) s)
       (λ o. Ok (clauses_of (body_of place tree shown filter) (is_grouped s) o.0, o.1))
 
   abbrev pub named_by : ℕ → ℕ → Term × Term → Checked Named
@@ -326,7 +336,7 @@ module _ (table : Table) (a : Asked) where
     body_after shown x = Ok (body_of place table.tree shown x.0, x.1)
 
     pub named_is : (page : Term × Term)
-        → named s (core_in a) (map sort_written a.sorted) page ≡ named_by place table.tree page
+        → named s (core_in a) (map (sort_written a.falls) a.sorted) page ≡ named_by place table.tree page
     unfolding sorts
     named_is page =
         named_so s a page ∙ (λ i. named_from s a page (parts_so s a i))
@@ -336,6 +346,6 @@ module _ (table : Table) (a : Asked) where
         ∙ (λ i. named_from s a page
         (and_then columns_by (λ c. and_then_after (filter_by c.0 c.1) (body_after c.0) (clauses_after s a) i)))
         ∙ (λ i. named_from s a page (and_then columns_by (λ c. and_then (filter_by c.0 c.1) (λ x.
-        and_then (sorts_same s place table is a.table c.0 (is_grouped x.1) a.sorted known.sorted c.0 []
+        and_then (sorts_same s place table is a.table c.0 (is_grouped x.1) a.falls a.sorted known.sorted c.0 []
         x.1 i)
         (λ o. pure (clauses_of (body_of place table.tree c.0 x.0) (is_grouped x.1) o.0) o.1)))))

@@ -11,6 +11,7 @@ use Rattle.store_tables.specs.Placed.{HasTableAt}
 use Rattle.store_tables.specs.internal.Queries.{AreShownBy, is_read_as_select, by_others}
 use Rattle.store_tables.specs.Tables.{made_as}
 use Rattle.store_tables.specs.internal.Texts.{names_of, id_name, key_names, all_text, ids_text, by_first_text}
+use Rattle.store_tables.specs.internal.Texts.{last_text}
 use Rattle.store_tables.specs.declared.names.Table as of_club
 use Rattle.store_tables.specs.declared.names.Table.TheVariants.{Meta}
 use Rattle.store_tables.proofs.PlacedTexts.{IsFound, command_is, plain_is, stored, unlisted_is, IsMeant, meant_so}
@@ -19,8 +20,8 @@ use Rattle.sqlite_tied.specs.Compute.{everything}
 use Rattle.sqlite_value.specs.Keys.{first_key, ascending}
 use Rattle.sqlite_value.specs.declared.keys.Collation.{Collation}
 use Rattle.sqlite_value.specs.declared.keys.Collation.TheVariants.{Binary}
-use Rattle.store_tables.specs.internal.Reading.{by_columns}
-use Rattle.store_tables.proofs.PlacedQueries.{Asked, asked_of}
+use Rattle.store_tables.specs.internal.Reading.{by_columns, by_first_falling}
+use Rattle.store_tables.proofs.PlacedQueries.{Asked, asked_in, asked_of}
 use Rattle.sqlite_sql.specs.Query.{Query, output, output_cmp}
 use Rattle.sqlite_sql.specs.declared.ops.BinaryOp.TheVariants.{Compare}
 use Rattle.sqlite_sql.specs.declared.ops.CompareOp.TheVariants.{Eq}
@@ -76,6 +77,13 @@ Picks table key filter wanted given =
 abbrev pub all_of : Table → Query
 all_of table = selects table.tree [] (columns_of table) (rising_by (key_of table))
 
+-- by the first column, the greatest first
+abbrev pub falling_by : Table → List (Term × Key)
+falling_by table = (col 1 (stored_at table 0), record { collation = Binary; descending = true }) ∷ []
+
+abbrev pub last_of : Table → Query
+last_of table = selects table.tree [] (columns_of table) (falling_by table)
+
 abbrev pub group_of : Table → Query
 group_of table =
     selects table.tree (as_given 0 (stored_at table 0 ∷ [])) (columns_of table) (rising_by (drop 1 (key_of table)))
@@ -84,6 +92,9 @@ group_of table =
 
 abbrev pub all_asked : Table → Asked
 all_asked table = asked_of table (names_of table) [] (key_names table) (all_text table)
+
+abbrev pub last_asked : Table → Asked
+last_asked table = asked_in true table (names_of table) [] (take 1 (names_of table)) (last_text table)
 
 abbrev pub ids_asked : Table → Asked
 ids_asked table = asked_of table (id_name table ∷ []) [] (id_name table ∷ []) (ids_text table)
@@ -94,15 +105,18 @@ group_asked table =
 
 -- ---- what is found by computing
 
--- The three texts of a table, with this tree.
+-- The four texts of a table, with this tree.
 pub record AreMeant (table : Table) : Type 0 where
   pub all : IsMeant table (all_asked table) (all_text table) [] (columns_of table) (rising_by (key_of table))
+      (names_of table)
+  pub last : IsMeant table (last_asked table) (last_text table) [] (columns_of table) (falling_by table)
       (names_of table)
   pub ids : IsMeant table (ids_asked table) (ids_text table) [] (col 1 0 ∷ []) (rising_by (col 1 0 ∷ []))
       (id_name table ∷ [])
   pub group : IsMeant table (group_asked table) (by_first_text table) (as_given 0 (stored_at table 0 ∷ []))
       (columns_of table) (rising_by (drop 1 (key_of table))) (names_of table)
   pub by_all : ShowsIn (all_of table) [] (by_columns (length table.primary))
+  pub by_last : ShowsIn (last_of table) [] by_first_falling
   pub by_rest : (n : ℤ) → ShowsIn (group_of table) (Int n ∷ []) (by_others (length table.primary))
   pub picks : (n : ℤ) → Picks table (0 ∷ []) (group_of table).filter (Int n ∷ []) (Int n ∷ [])
 
@@ -117,9 +131,11 @@ are_meant Meta tree =
     let table = made_as Meta tree in
     record {
       all = meant_so table (all_asked table) _ _ _ _ _ (hows table) refl refl refl refl (λ place tree. refl) refl;
+      last = meant_so table (last_asked table) _ _ _ _ _ (hows table) refl refl refl refl (λ place tree. refl) refl;
       ids = meant_so table (ids_asked table) _ _ _ _ _ (None ∷ []) refl refl refl refl (λ place tree. refl) refl;
       group = meant_so table (group_asked table) _ _ _ _ _ (hows table) refl refl refl refl (λ place tree. refl) refl;
       by_all = λ r s. refl;
+      by_last = λ r s. refl;
       by_rest = λ n r s. refl;
       picks = λ n r. refl;
     }
@@ -127,9 +143,11 @@ are_meant of_this tree =
     let table = made_as of_this tree in
     record {
       all = meant_so table (all_asked table) _ _ _ _ _ (hows table) refl refl refl refl (λ place tree. refl) refl;
+      last = meant_so table (last_asked table) _ _ _ _ _ (hows table) refl refl refl refl (λ place tree. refl) refl;
       ids = meant_so table (ids_asked table) _ _ _ _ _ (None ∷ []) refl refl refl refl (λ place tree. refl) refl;
       group = meant_so table (group_asked table) _ _ _ _ _ (hows table) refl refl refl refl (λ place tree. refl) refl;
       by_all = λ r s. refl;
+      by_last = λ r s. refl;
       by_rest = λ n r s. refl;
       picks = λ n r. refl;
     }
@@ -203,7 +221,22 @@ module _ (schema : Schema) (of_this : of_club.Table) (stands : HasTableAt schema
           picks = meant.picks n;
           by = meant.by_rest n;
         };
+        last = record {
+          at = stands.at;
+          filter = [];
+          project = columns_of table;
+          order = falling_by table;
+          names = names_of table;
+          command = command_is table (last_asked table) _ _ _ _ _ meant.last schema stands.place is_found;
+          plain = plain_is table (last_asked table) _ _ _ _ _ meant.last schema stands.place is_found;
+          unlisted = unlisted_is table (last_asked table) _ _ _ _ _ meant.last schema stands.place is_found;
+          overlaid = is_bare;
+          shows = all_shown table [];
+          picks = λ r. refl;
+          by = meant.by_last;
+        };
         all_is = ap is_read_as_select meant.all.parsed;
+        last_is = ap is_read_as_select meant.last.parsed;
         ids_is = ap is_read_as_select meant.ids.parsed;
         group_is = ap is_read_as_select meant.group.parsed;
       }

@@ -204,8 +204,8 @@ column_written name = written.Column None name
 abbrev pub shown_written : Name → Shown
 shown_written name = showing.One (column_written name) None name
 
-abbrev pub sort_written : Name → Sort
-sort_written name = roll-Sort (record { key = column_written name; descending = false; nulls_first = None })
+abbrev pub sort_written : Bool → Name → Sort
+sort_written falls name = roll-Sort (record { key = column_written name; descending = falls; nulls_first = None })
 
 -- a column is as a parameter
 abbrev equal_written : Name → ℕ → Expr
@@ -378,21 +378,23 @@ module _ (s : Schema) (p : ℕ) (table : Table) (one : StandsAt s p table) (call
       (if is_numeral (column_written name) then lift (place_in x.0) >>= shown_again may_aggregate shown
       else (if reads_below 1 x.0 then fail Unsupported else pure x.0)) x.1)
 
-  sort_same : (name : Name) → is_known table name ≡ true → (shown : List Output) (done : List (Term × Key)) (st : State)
-      → sort lower first_context shown done (sort_written name) st
-      ≡ sort lower second_context shown done (sort_written name) st
+  sort_same : (falls : Bool) (name : Name) → is_known table name ≡ true → (shown : List Output)
+      (done : List (Term × Key)) (st : State)
+      → sort lower first_context shown done (sort_written falls name) st
+      ≡ sort lower second_context shown done (sort_written falls name) st
   unfolding sort peeled out-Expr denote.Hole.Carrier.out
-  sort_same name known shown done st i =
+  sort_same falls name known shown done st i =
       and_then (key_same name known shown (alias_in shown (column_written name)) st i) (λ x.
       and_then (collation_of (column_written name) x.1) (λ how.
-      placed done (record { collation = how.0; descending = false }) None x.0 how.1))
+      placed done (record { collation = how.0; descending = falls }) None x.0 how.1))
 
-  pub sorts_same : (names : List Name) → list_all (is_known table) names ≡ true → (shown : List Output)
-      (done : List (Term × Key)) (st : State)
-      → sorts_from lower first_context shown done (map sort_written names) st
-      ≡ sorts_from lower second_context shown done (map sort_written names) st
-  sorts_same [] known shown done st = refl
-  sorts_same (name ∷ names) known shown done st =
+  pub sorts_same : (falls : Bool) (names : List Name) → list_all (is_known table) names ≡ true
+      → (shown : List Output) (done : List (Term × Key)) (st : State)
+      → sorts_from lower first_context shown done (map (sort_written falls) names) st
+      ≡ sorts_from lower second_context shown done (map (sort_written falls) names) st
+  sorts_same falls [] known shown done st = refl
+  sorts_same falls (name ∷ names) known shown done st =
       let both = and_parts _ _ known in
       λ i.
-      and_then (sort_same name both.0 shown done st i) (λ longer. sorts_same names both.1 shown longer.0 longer.1 i)
+      and_then (sort_same falls name both.0 shown done st i)
+      (λ longer. sorts_same falls names both.1 shown longer.0 longer.1 i)

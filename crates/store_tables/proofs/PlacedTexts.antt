@@ -92,19 +92,19 @@ module _ (s : Schema) (a : Asked) where
   -- what is made of one SELECT, where a view might be meant
   abbrev viewed : Checked Shown → Checked (Shown × List Let)
   viewed found =
-      and_then (or_view deeper (viewing deeper s (core_in a) (map sort_written a.sorted) whole_page 63) s s found [])
+      and_then (or_view deeper (viewing deeper s (core_in a) (map (sort_written a.falls) a.sorted) whole_page 63) s s found [])
       shown_alone
 
-  module _ (found : Checked Shown) (is : named s (core_in a) (map sort_written a.sorted) whole_page ≡ found)
+  module _ (found : Checked Shown) (is : named s (core_in a) (map (sort_written a.falls) a.sorted) whole_page ≡ found)
       (own : viewed found ≡ answered found) where
     are_tables : are_named (out-Core (core_in a)).from ≡ true
     are_tables = (λ i. are_named (core_out a i).from) ∙ (λ i. is_named (source_out a i).origin && true)
 
-    alone_is : alone deeper s (core_in a) (map sort_written a.sorted) whole_page [] ≡ answered found
+    alone_is : alone deeper s (core_in a) (map (sort_written a.falls) a.sorted) whole_page [] ≡ answered found
     unfolding alone
     alone_is =
         (λ i.
-        and_then (single_named deeper s (core_in a) (map sort_written a.sorted) whole_page [] are_tables i) shown_alone)
+        and_then (single_named deeper s (core_in a) (map (sort_written a.falls) a.sorted) whole_page [] are_tables i) shown_alone)
         ∙ (λ i. viewed (is i)) ∙ own
 
     whole_is : whole deeper s (select_in a) [] ≡ answered found
@@ -217,7 +217,7 @@ module _ (table : Table) (a : Asked) (sql : List ℕ) (filter project : List Ter
       read_by s a (Ok (draft_of table.tree filter project order, names, meant.how)) drafted refl
       ∙ (λ i. and_then (typed i) selecting)
     where
-      drafted : named s (core_in a) (map sort_written a.sorted) whole_page
+      drafted : named s (core_in a) (map (sort_written a.falls) a.sorted) whole_page
           ≡ Ok (draft_of table.tree filter project order, names, meant.how)
       drafted =
           named_is table a meant.known s place found.stands found.named whole_page ∙ meant.drafted place table.tree

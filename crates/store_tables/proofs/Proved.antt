@@ -1,13 +1,13 @@
 -- What the tables offer to proofs of the crates above, which cite no other module of these proofs.
 -- A SELECT only reads, whatever the schema; what it shows of a table, and which rows it finds.
-pub use Rattle.store_tables.proofs.QueryLemmas.{select_plain, select_unchanged, only_reads}
+pub use Rattle.store_tables.proofs.QueryLemmas.{select_plain, select_unchanged, select_fails, only_left, only_reads}
 pub use Rattle.store_tables.proofs.QueryLemmas.{reads_then, reads_by, only_reading, read_nothing}
 pub use Rattle.store_tables.proofs.QueryLemmas.{read_then, read_failed, still_rows}
 pub use Rattle.store_tables.proofs.CallLemmas.{clean_before, ended, reads_on, rows_after}
 pub use Rattle.store_tables.proofs.ReadLemmas.{unchanged_exactly, has_map}
 pub use Rattle.store_tables.proofs.ReadLemmas.{has_mapped, has_turned}
-pub use Rattle.store_tables.proofs.TellLemmas.{tells, tells_ids, tells_first, finds, no_input, all_alike, one_shown}
-pub use Rattle.store_tables.proofs.TellLemmas.{ids_of, apart_of, stored_at}
+pub use Rattle.store_tables.proofs.TellLemmas.{tells, tells_ids, finds, no_input, all_alike, one_shown}
+pub use Rattle.store_tables.proofs.TellLemmas.{ids_of, apart_of, stored_at, no_missing, row_of_whole}
 pub use Rattle.store_tables.proofs.PlacedTold.{told_here}
 pub use Rattle.store_tables.proofs.PlacedSelects.{is_found, placed_shown, tree_is}
 pub use Rattle.store_tables.proofs.PlacedQuestions.{members_by_name_placed, members_by_key_placed}

@@ -113,19 +113,26 @@ module _ (sql : List ℕ) (select : IsSelect sql) (params : Row) (old new : Stat
   either_way items (Ok x) h k = inl (select_unchanged (items x) h)
   either_way items (Err e) h k = select_fails e k
 
+  -- a call that changes nothing, or rolls back where it fails, only reads
+  pub only_left : (old.in_transaction ≡ false → new.in_transaction ≡ false)
+      → Survives old new (CommitsShowing sql params old)
+      → (HasCleanDisk new → IsUnchanged old new ⊎ IsRolledBack old new) → OnlyReads old new
+  only_left mode survives left = record {
+    idle = mode;
+    clean = survives.clean;
+    may = select_keeps_may survives;
+    was_open = λ clean here. (kept_open (left clean) here).0;
+    committed = λ clean here. (kept_open (left clean) here).1;
+    kept = λ t. absurd (true≢false (sym t));
+  }
+
   -- a call of a query only reads
   pub only_reads : {X : Type 0} (items : X → List Row) (r : Result X Error)
       → (old.in_transaction ≡ false → new.in_transaction ≡ false) → Survives old new (CommitsShowing sql params old)
       → (HasCleanDisk new → IfOk r (λ x. Shown sql params old new (items x)))
       → (HasCleanDisk new → IfErr r (FailsToQuery sql params old new)) → OnlyReads old new
-  only_reads items r mode survives ok err = record {
-    idle = mode;
-    clean = survives.clean;
-    may = select_keeps_may survives;
-    was_open = λ clean here. (kept_open (either_way items r (ok clean) (err clean)) here).0;
-    committed = λ clean here. (kept_open (either_way items r (ok clean) (err clean)) here).1;
-    kept = λ t. absurd (true≢false (sym t));
-  }
+  only_reads items r mode survives ok err =
+      only_left mode survives (λ clean. either_way items r (ok clean) (err clean))
 
 -- ---- calls that read, one after another
 

@@ -14,8 +14,10 @@ use Rattle.sqlite.specs.Command.TheVariants.{Select, Rows}
 use Rattle.sqlite.specs.Clock.{timed}
 use Rattle.sqlite.specs.Effect.{Reads, RefusesToRead}
 use Rattle.sqlite.specs.State.{FailsToQuery, FailsToShow, IsNotRun, IsNoStatement, store_error, CommitsShowing}
+use Rattle.sqlite.specs.State.{QueriesRow}
 use Rattle.sqlite.specs.declared.error.Error.{Error}
-use Rattle.sqlite.proofs.Callers.{IsPlain, reads_as}
+use Rattle.sqlite.specs.declared.error.Error.TheVariants.{QueryReturnedNoRows}
+use Rattle.sqlite.proofs.Callers.{IsPlain, reads_as, begins_shown, command_of, EndsIn}
 use Rattle.sqlite_trees.specs.View.{is_int}
 use Rattle.sqlite_trees.specs.declared.error.StoreError.{StoreError}
 use Rattle.sqlite_trees.specs.declared.error.StoreError.TheVariants as failure
@@ -30,11 +32,12 @@ use Rattle.store_tables.specs.Contents.{Content, Stores, AreStored, IsExactly}
 use Rattle.store_tables.specs.internal.Contents.{AreThose}
 use Rattle.store_tables.specs.internal.Put.{selects}
 use Rattle.store_tables.specs.internal.Reading.{AreIds, by_columns, ReturnsRows, TellsIds, IsNoInput}
-use Rattle.store_tables.specs.internal.Queries.{Selects, Finds}
+use Rattle.store_tables.specs.internal.Queries.{Selects, Finds, IsSelect}
 use Rattle.store_tables.proofs.ApartLemmas.{pairs_turned, each_shown}
 use Rattle.store_tables.proofs.OrderLemmas.{sorted_rows, has_index}
-use Rattle.store_tables.proofs.ReadLemmas.{found_rows, shown_rows, has_map, has_mapped, shown_unchanged, may_as_before}
+use Rattle.store_tables.proofs.ReadLemmas.{found_rows, shown_rows, shown_unchanged, may_as_before}
 use Rattle.store_tables.proofs.ReadLemmas.{unchanged_exactly}
+use Rattle.store_tables.proofs.QueryLemmas.{select_plain}
 
 module _ (schema : Schema) (tree count : ℕ) (sql : List ℕ) (project : List Term)
     (is : Selects schema tree count sql project) (old new : State) (rows : List Row) (has : old.now.schema ≡ schema)
@@ -122,27 +125,6 @@ tells_ids schema tree sql project is first old new rows has h =
       same = kept_by schema tree 1 sql project is old new rows has h;
     }
 
--- where the first column of each row is selected
-pub tells_first : (schema : Schema) (table : Table) (sql : List ℕ) (project : List Term)
-    → Selects schema table.tree 1 sql project
-    → ((r : Row) → eval_all project ([] ∷ r ∷ []) ≡ column (cells table r) 0 ∷ [])
-    → (old new : State) (rows wanted : List Row) → old.now.schema ≡ schema → Shown sql [] old new rows
-    → Keeps table old.now.trees wanted → (z : Row) → (Has rows z → Has (map (λ r. column r 0 ∷ []) wanted) z)
-    × (Has (map (λ r. column r 0 ∷ []) wanted) z → Has rows z)
-tells_first schema table sql project is shows old new rows wanted has h keeps z =
-    let first : Row → Row = λ r. column r 0 ∷ [] in
-    let are = shown_rows old.now [] table.tree [] project is.order is.overlaid is.names rows
-    (read_by schema table.tree 1 sql project is old new rows has h) in (
-      λ there.
-          let it = are.sound z there in
-          subst (Has (map first wanted)) (sym (it.3 ∙ shows it.0))
-          (has_map first wanted (cells table it.0) (keeps.only it.0 it.1)),
-      λ there.
-          let y = has_mapped first wanted z there in
-          let it = keeps.stored y.0 y.1 in
-          subst (Has rows) (shows it.0 ∙ ap first it.2 ∙ sym y.2) (are.complete it.0 it.1 refl),
-    )
-
 -- the table at a place of the schema is stored
 pub stored_at : (schema : Schema) (table : Table) (place : ℕ) → slice_get schema.tables place ≡ Some table
     → (db : Trees) (content : Content) → AreStored schema db content → Stores table db content
@@ -217,6 +199,60 @@ no_input schema sql params old new e plain has (inr h) =
     let none = (subst IsPlain h.1.is bare).0 in
     let it = subst (FailsToShow old new sql h.0 (timed params h.0.formats h.1.now) e) none h.2 in
     no_read old.step_limit h.0.command it.0 (timed params h.0.formats h.1.now) e it.2
+
+-- ---- the first row of an answer
+
+no_row_read : (limit : Option ℕ) (command : Command) (db : Database) (params : Row) (e : Error)
+    → RefusesToRead limit command db params e → e ≢ QueryReturnedNoRows
+no_row_read limit (Select q names) db params e (inl h) is = let x = sym h.0 ∙ is in cc
+no_row_read limit (Select q names) db params e (inr (inl h)) is = let x = sym h.0 ∙ is in cc
+no_row_read limit (Select q names) db params e (inr (inr h)) is = let x = sym h.0 ∙ is in cc
+no_row_read limit (Rows values width names) db params e h is = let x = sym h.0 ∙ is in cc
+no_row_read limit _ db params e h is = let x = sym h ∙ is in cc
+
+no_row_stated : (s : State) (sql : List ℕ) (params : Row) (e : Error) → IsNoStatement s sql params e
+    → e ≢ QueryReturnedNoRows
+no_row_stated s sql params e (inl h) is = let x = sym h.2 ∙ is in cc
+no_row_stated s sql params e (inr h) is = elim h.2 [
+  | inl many ↦ (let x = sym many.1 ∙ is in cc)
+  | inr (inl given) ↦ (let x = sym given.1 ∙ is in cc)
+  | inr (inr clock) ↦ (let x = sym clock.1 ∙ is in cc)
+]
+
+no_row_stored : (cause : StoreError) → store_error cause ≢ QueryReturnedNoRows
+no_row_stored failure.OutOfMemory e = cc
+no_row_stored _ e = cc
+
+-- That no row was found is no failure of a SELECT.
+pub no_missing : (sql : List ℕ) → IsSelect sql → (params : Row) (old new : State) (e : Error)
+    → FailsToQuery sql params old new e → e ≢ QueryReturnedNoRows
+unfolding FailsToQuery IsNotRun
+no_missing sql select params old new e (inl (inl h)) = no_row_stated old sql params e h.0
+no_missing sql select params old new e (inl (inr h)) = λ is. no_row_stored h.0 (sym h.1 ∙ is)
+no_missing sql select params old new e (inr h) =
+    let it = subst (FailsToShow old new sql h.0 (timed params h.0.formats h.1.now) e)
+    (select_plain old.now.schema sql h.0 select h.1.is) h.2 in
+    no_row_read old.step_limit h.0.command it.0 (timed params h.0.formats h.1.now) e it.2
+
+first_is : (rows : List Row) (row : Row) (sql : List ℕ) (params : Row) (old new : State)
+    → slice_get rows 0 ≡ Some row → Shown sql params old new rows
+    → (tail : List Row) × Shown sql params old new (row ∷ tail)
+first_is [] row sql params old new is shown = absurd cc
+first_is (x ∷ tail) row sql params old new is shown =
+    let same : x ≡ row = cc in
+    (tail, subst (λ r. Shown sql params old new (r ∷ tail)) same shown)
+
+-- The row that a SELECT of one table gives alone is the first of a whole answer.
+pub row_of_whole : {schema : Schema} {table : Table} {place : ℕ} {key : List ℕ} {wanted params : Row} {sql : List ℕ}
+    {cmp : Row → Row → Ordering} → Finds schema table place key wanted params sql cmp
+    → (given : Row) (old new : State) → old.now.schema ≡ schema → (row : Row) → QueriesRow sql given old new (Ok row)
+    → (tail : List Row) × Shown sql given old new (row ∷ tail)
+unfolding QueriesRow
+row_of_whole {sql = sql} finds given old new has row (inl begun) =
+    begins_shown sql given old new (row ∷ []) begun.0 begun.1 (λ c db it source.
+    subst (λ k. EndsIn k db (timed given c.formats it.now))
+    (sym (ap command_of (sym it.is ∙ ap (λ s. understood s sql) has) ∙ finds.command)) tt)
+row_of_whole {sql = sql} finds given old new has row (inr it) = first_is it.0 row sql given old new it.2 it.1
 
 -- ---- two lists of the rows of one table
 

@@ -33,7 +33,8 @@ const CREATE_EVENT_RULES: &str =
 impl Table {
     ghost use Rattle.std.specs.Prelude.{◌≡◌};
     ghost use Rattle.store_tables.specs.Tables.{standing};
-    ghost use Rattle.store_tables.specs.internal.Texts.{create_of, put_text, all_text, ids_text, by_first_text};
+    ghost use Rattle.store_tables.specs.internal.Texts.{create_of, put_text, all_text, last_text, ids_text};
+    ghost use Rattle.store_tables.specs.internal.Texts.{by_first_text};
 
     /// The CREATE TABLE statement.
     pub fn create(self) -> &'static str
@@ -111,6 +112,34 @@ impl Table {
                 "SELECT event, member, opponent, points, wins, draws, losses FROM scores ORDER BY event, member, opponent"
             }
             Table::EventRules => "SELECT event, declares FROM event_rules ORDER BY event",
+        }
+    }
+
+    /// The SELECT of all rows, in the order of the first column, the greatest first.
+    pub fn last(self) -> &'static str
+        ensures { result.now ≡ last_text (standing self) }
+    {
+        match self {
+            Table::Meta => "SELECT id, schema, last FROM meta ORDER BY id DESC",
+            Table::Members => "SELECT id, name, key FROM members ORDER BY id DESC",
+            Table::Events =>
+                "SELECT id, name, game, budget, increment FROM events ORDER BY id DESC",
+            Table::Challenges => {
+                "SELECT member, number, event, other, first, state, game FROM challenges ORDER BY member DESC"
+            }
+            Table::Moves => {
+                "SELECT game, ply, text, moment, left, position FROM moves ORDER BY game DESC"
+            }
+            Table::Games => {
+                "SELECT id, key, event, first, second, start, since, plies, left1, left2, offer_side, offer_ply, end, result, position, track_a, track_b FROM games ORDER BY id DESC"
+            }
+            Table::Seen => {
+                "SELECT game, position, count, first_ply FROM seen ORDER BY game DESC"
+            }
+            Table::Scores => {
+                "SELECT event, member, opponent, points, wins, draws, losses FROM scores ORDER BY event DESC"
+            }
+            Table::EventRules => "SELECT event, declares FROM event_rules ORDER BY event DESC",
         }
     }
 

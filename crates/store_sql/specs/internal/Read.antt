@@ -1,9 +1,12 @@
 -- The results of reading a table, and what a fault implies about its rows. No promise of the program rests on these
 -- definitions.
-use Rattle.std.specs.Prelude.{Bool, true, false, Result, Ok, Err, ◌≡◌, ◌⊎◌, ℕ, ℤ, ◌+◌, ◌<◌, pos, List, [], map}
-use Rattle.std.specs.Prelude.{length, get_or}
+use Rattle.std.specs.Prelude.{Bool, true, false, Result, Ok, Err, ◌≡◌, ◌≢◌, ◌⊎◌, ℕ, ℤ, ◌+◌, ◌<◌, pos, List, [], map}
+use Rattle.std.specs.Prelude.{length, get_or, Option, Some, None}
 use Rattle.std.specs.List.{AllByRecursion}
 use Rattle.std.specs.List.Sorted.{IsSorted, IsPermutation}
+use Rattle.std.specs.declared.cmp.Ordering.TheVariants.{Less}
+use Rattle.sqlite_value.specs.Order.{value_cmp}
+use Rattle.sqlite_rules.specs.Lists.{Has}
 use Rattle.sqlite.specs.Order.{Row, column}
 use Rattle.sqlite.specs.Table.{Table}
 use Rattle.sqlite.specs.State.{State, IsUnchanged}
@@ -43,6 +46,12 @@ Blames table IsTyped old fault =
     (fault ≡ Store) ⊎ ((fault ≡ Memory) ⊎ ((fault ≡ WrongType)
     × ((rows : List Row) → Keeps table (club_trees old.now) rows → AreApart (club_trees old.now table.tree)
     → ¬ AllByRecursion IsTyped rows)))
+
+-- The row is one with the greatest first column; it is `None` where there is no row.
+abbrev pub IsLast : List Row → Option Row → Type 0
+IsLast rows None = rows ≡ []
+IsLast rows (Some row) = Has rows row
+    × ((x : Row) → Has rows x → value_cmp (column row 0) (column x 0) ≢ Less)
 
 -- the ids of the rows are 1, 2, 3 and so on
 abbrev pub BeginWithPlaces : List Row → Type 0

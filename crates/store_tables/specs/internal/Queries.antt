@@ -23,8 +23,8 @@ use Rattle.sqlite_sql.specs.Query.{output, output_cmp, key_cmp}
 use Rattle.sqlite_trees.specs.Tree.{rowid}
 use Rattle.store_tables.specs.Content.{cells, same_key}
 use Rattle.store_tables.specs.internal.Put.{selects}
-use Rattle.store_tables.specs.internal.Reading.{by_columns, rising}
-use Rattle.store_tables.specs.internal.Texts.{all_text, ids_text, by_first_text}
+use Rattle.store_tables.specs.internal.Reading.{by_columns, by_first_falling, rising}
+use Rattle.store_tables.specs.internal.Texts.{all_text, ids_text, by_first_text, last_text}
 
 -- ---- by the grammar
 
@@ -79,8 +79,8 @@ pub record Finds (schema : Schema) (table : Table) (place : ℕ) (key : List ℕ
 abbrev pub by_others : ℕ → Row → Row → Ordering
 by_others width = key_cmp 1 (rising (width - 1))
 
--- The table has a statement for all rows in the order of the key, one for the rowids, and one for the rows with a given
--- first column.
+-- The table has a statement for all rows in the order of the key, one for all rows with the greatest first column
+-- first, one for the rowids, and one for the rows with a given first column.
 pub record AreShownBy (schema : Schema) (table : Table) (width : ℕ) : Type 0 where
   pub place : ℕ
   pub at : slice_get schema.tables place ≡ Some table
@@ -92,6 +92,8 @@ pub record AreShownBy (schema : Schema) (table : Table) (width : ℕ) : Type 0 w
   pub first : (r : Row) → eval_all firsts ([] ∷ r ∷ []) ≡ rowid r ∷ []
   pub some : (n : ℤ) → Finds schema table place (0 ∷ []) (Int n ∷ []) (Int n ∷ []) (by_first_text table)
       (by_others width)
+  pub last : Finds schema table place [] [] [] (last_text table) by_first_falling
   pub all_is : IsSelect (all_text table)
+  pub last_is : IsSelect (last_text table)
   pub ids_is : IsSelect (ids_text table)
   pub group_is : IsSelect (by_first_text table)

@@ -1,5 +1,5 @@
 -- The result of reading a table of any database. No promise of the program rests on these definitions.
-use Rattle.std.specs.Prelude.{◌≢◌, ℕ, zero, suc, List, [], ◌∷◌, map, IsTrue}
+use Rattle.std.specs.Prelude.{◌≢◌, ℕ, zero, suc, true, List, [], ◌∷◌, map, IsTrue}
 use Rattle.std.specs.List.{AllByRecursion}
 use Rattle.std.specs.List.Sorted.{IsSorted, IsPermutation}
 use Rattle.std.specs.declared.cmp.Ordering.{Ordering}
@@ -32,6 +32,10 @@ rising (suc n) = ascending Binary ∷ rising n
 -- the order of ORDER BY the first n columns
 abbrev pub by_columns : ℕ → Row → Row → Ordering
 by_columns n = key_cmp 0 (rising n)
+
+-- the order of ORDER BY the first column DESC
+abbrev pub by_first_falling : Row → Row → Ordering
+by_first_falling = key_cmp 0 (record { collation = Binary; descending = true } ∷ [])
 
 -- the order of the moves of one game: by the second column, the ply
 abbrev pub by_ply : Row → Row → Ordering

@@ -93,6 +93,10 @@ found_text table names rest = rows_text table (codes " WHERE " ++ (given names p
 abbrev pub all_text : Table → List ℕ
 all_text table = rows_text table (ordered (key_names table))
 
+-- all rows, in the order of the first column, the greatest first
+abbrev pub last_text : Table → List ℕ
+last_text table = rows_text table (ordered (take 1 (names_of table)) ++ codes " DESC")
+
 -- the rowids, in ascending order
 abbrev pub ids_text : Table → List ℕ
 ids_text table =

@@ -1,7 +1,7 @@
 use Rattle.std.proofs.Common.{ap, ◌∙◌}
 use Rattle.std.proofs.lemmas.Result.{IfOk-weaker, IfErr-weaker}
 use Rattle.store_tables.specs.internal.Texts.{ids_text}
-use Rattle.store_sql.proofs.SelectLemmas.{counted, ids_number, ids_told, known, moved_to, select_reads, standing_alone}
+use Rattle.store_sql.proofs.SelectLemmas.{ids_number, ids_told, known, moved_to, select_reads, standing_alone}
 use Rattle.store_sql.proofs.read.show_ids.Goals as goal
 
 pub returns-clause-reads : goal.returns-clause-reads
@@ -31,10 +31,3 @@ returns-clause-number g c clean =
     IfOk-weaker c.query_all.result _ _ (λ rows shown stands.
     ids_number g.met.T.Select.is_table g.met.T.Select.read _ _ stands
     (c.ids.ensures ∙ ap ids_text c.table.ensures) rows.items shown) (c.query_all.ensures.ok clean)
-
-pub returns-clause-count : goal.returns-clause-count
-returns-clause-count g c clean =
-    IfOk-weaker c.query_all.result _ _ (λ rows shown id content k places.
-    counted g.met.T.Select.is_table g.met.T.Select.read _ _ content k
-    (c.ids.ensures ∙ ap ids_text c.table.ensures) (g.met.T.Select.numbered id).1 rows.items shown places)
-    (c.query_all.ensures.ok clean)
