@@ -88,6 +88,7 @@ TESTS_OF_PROGRAM = [
     Test("cli/install.py", 600),
     Test("cli/threats.py"),
     Test("cli/unread.py"),
+    Test("cli/json_answers.py"),
     Test("cli/completions.py"),
     Test("cli/documented_commands.py"),
     Test("gate/manual.py"),

@@ -13,6 +13,8 @@ Without arguments it runs all scripts of tests/cli/scripts. For each line it pri
         usage error, has no text: something is printed on standard error.
     1000 c.db show 2 = 0 > board
         The same, with the text of that name as output, which may have `|` and leading blanks.
+    club --json c.db members = 0 {"members":["anna","bert"]}
+        A text that begins with `{` is JSON, which ends without a line break.
     club c.db verify = 0 sound
         The same with the arguments as they are.
     text lost = "[Result \"0-2\"]\n" + "1. 32-28 19-23 0-2" + "\n" * 2
@@ -111,7 +113,9 @@ def shortened(words):
 
 
 def lines_of(text):
-    """The bytes of lines, which `|` separates; none if there is no text."""
+    """The bytes of JSON, or of lines, which `|` separates; none if there is no text."""
+    if text.startswith("{"):
+        return text.encode()
     return (text.replace("|", "\n") + "\n").encode() if text else b""
 
 

@@ -22,6 +22,7 @@ KINDS = {  # the kinds of each command's words
     "legal": ("number",), "export": ("number",), "table": ("name",), "verify": (), "upgrade": (),
     "members": (), "events": (), "games": (),  # options come after the last
 }
+JSON_COMMANDS = "legal",  # of these; the model has no text of `show`
 POOLS = {
     "name": ("anna", "bert", "cara", "dora", "autumn", "fuji", "winter", "g1", "g2", "g3", "a", "a" * 24, "a" * 25,
              "a.b_c-d", "", "an na", "\u00e4", "anna\n", "Anna", "a" * 300, "a/b", "%", "'", "a\tb", "\udcff", "0",
@@ -156,6 +157,14 @@ def moments(chance, club, command):
     return ["--now", str(club.last + chance.choice((0, 0, 0, 1, 5, 59, 60, 61, 86400, 90000, -100)))]
 
 
+def options_before(chance, club, command):
+    """The words before FILE: the timestamp, and `--json` mostly where the command has JSON."""
+    found = moments(chance, club, command)
+    if chance.random() < (0.4 if command in JSON_COMMANDS else 0.03):
+        found.insert(chance.choice((0, len(found))), "--json")
+    return found
+
+
 # ---- what they mean
 
 def number_of(word):
@@ -165,7 +174,13 @@ def number_of(word):
 
 
 def order_of(words):
-    """The moment, the command and its values; BadWords where they are no order, None where that is left open."""
+    """The moment, the command, its values, the part of an import, and whether its answer is JSON.
+
+    BadWords where they are no order, None where that is left open."""
+    is_json = words[0] == "--json" or words[2:3] == ["--json"] and words[0] == "--now"
+    if is_json:
+        words = list(words)
+        words.remove("--json")
     if any(is_open(word) for word in words) or is_odd(words) or words.count("--now") > 1:
         return None
     now = 0
@@ -174,11 +189,11 @@ def order_of(words):
     if now > LAST_MOMENT or len(words) < 2:
         raise BadWords
     command, values = words[1], words[2:]
-    if command not in KINDS:
+    if command not in KINDS or is_json and command not in JSON_COMMANDS:
         raise BadWords
     part = 1
     if command == "games":
-        return now, command, listed(values), part
+        return now, command, listed(values), part, is_json
     if any(word.startswith((*NAMED, *FLAGS)) for word in words):
         raise BadWords
     if command == "import-csa" and "--part" in values:
@@ -193,7 +208,7 @@ def order_of(words):
     values = [number_of(value) if kind == "number" else value for kind, value in zip(KINDS[command], values)]
     if command == "event" and values[1] not in ("draughts", "shogi"):
         raise BadWords
-    return now, command, values, part
+    return now, command, values, part, is_json
 
 
 def is_open(word):
@@ -236,7 +251,7 @@ def record_of(word, standard_input):
 
 def printed(club, order, standard_input):
     """The status, standard output and standard error."""
-    club.moment, command, values, part = order
+    club.moment, command, values, part, is_json = order
     acts = {"member": club.add_member, "event": club.add_event, "seat": club.add_seat, "move": club.do_officers_move,
             "sweep": club.do_sweep, "legal": club.do_list, "export": club.do_export, "table": club.do_table,
             "verify": club.do_verify, "upgrade": club.do_upgrade, "members": club.do_members,
@@ -249,7 +264,7 @@ def printed(club, order, standard_input):
     if command == "init":
         return 3, "", "store 70 Foreign\n"
     try:
-        return 0, acts.get(command, club.add_record)(*values), ""
+        return 0, club.json_of(command, *values) if is_json else acts.get(command, club.add_record)(*values), ""
     except Refused as refusing:
         return 1, "", told_refusal(refusing)
 
@@ -320,7 +335,7 @@ class Wording:
     def at_files(self, chance, name):
         """Without a club: a usage error or a fault, and no file is created."""
         file, fault = chance.choice(FILES)
-        words = [*moments(chance, self.club, ""), file, *words_of(chance, self.club)]
+        words = [*options_before(chance, self.club, ""), file, *words_of(chance, self.club)]
         try:
             order = order_of(words)
         except BadWords:
@@ -380,6 +395,7 @@ def one_round(test, wording, number):
         if chance.random() < 0.25:
             words = changed(chance, words)
         standard_input = chance.choice((b"", *records))
-        if not wording.case(name, [*moments(chance, wording.club, (*words, "")[0]), "c.db", *words], standard_input):
+        before_file = options_before(chance, wording.club, (*words, "")[0])
+        if not wording.case(name, [*before_file, "c.db", *words], standard_input):
             return
     test.check(before == folder_content(), f"round {number}: other files", before, folder_content())

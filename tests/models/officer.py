@@ -3,7 +3,7 @@ import re
 import time
 
 from models import draughts, shogi
-from models.club import Club, LAST_MOMENT, NAMES
+from models.club import Club, LAST_MOMENT, NAMES, to_json
 from models.draughts import Refused
 from models.records import record_of
 
@@ -152,6 +152,10 @@ class OfficersClub(Club):
 
     def do_list(self, number):
         return "".join(f"{move}\n" for move in self.game_of(number).legal()["moves"])
+
+    def json_of(self, command, number):
+        """The answer to `legal` or `show` with `--json`."""
+        return to_json(self.do_legal(None, number) if command == "legal" else self.do_page(None, number))
 
     def do_export(self, number):
         return record_of(self.game_of(number))

@@ -1,7 +1,7 @@
 # Completion of `club` for bash. Made by tests/gate/manual.py --write from the help texts of the program.
 _club() {
     local word current=${COMP_WORDS[COMP_CWORD]} file='' command='' count=0 skip='' at
-    local options='--explain --now -h --help -V --version' valued='--now'
+    local options='--explain --json --now -h --help -V --version' valued='--now'
     local arguments=()
     COMPREPLY=()
     for ((at = 1; at < COMP_CWORD; at++)); do

@@ -26,6 +26,7 @@ end
 complete -c club -f
 complete -c club -n '__club_is_at 0' -F
 complete -c club -n '__club_is_at 0' -l explain -d 'Says on a second line what a refusal or a fault means, and what can be done'
+complete -c club -n '__club_is_at 0' -l json -d 'Prints the answer of \'legal\' or \'show\' as one JSON document'
 complete -c club -n '__club_is_at 0' -l now -x -d 'The moment that counts, in Unix seconds, in place of the machine\'s clock. One accepted command at a mistyped moment raises the club\'s clock for good'
 complete -c club -n '__club_is_at 0' -s h -l help -d 'Print help'
 complete -c club -n '__club_is_at 0' -s V -l version -d 'Print version'

@@ -139,8 +139,8 @@ none_is_some None some none = true≢false (sym some)
 none_is_some (Some x) some none = none-some _ (sym none)
 
 -- matches that are no order
-pub none_said : (app : GameNames → App) (is_none : Text → Found → Type 0) (words : List Text) (games : GameNames)
-    (matches : ArgMatches) (told : BadWords) → are_games games → is_simple_and_free (app games) ≡ true
+pub none_said : (app : GameNames → App) (is_none : Found → Text → Found → Type 0) (words : List Text)
+    (games : GameNames) (matches : ArgMatches) (told : BadWords) → are_games games → is_simple_and_free (app games) ≡ true
     → (built (app games)).top.subcommand_required ≡ true
     → HasMatchesOf (app games) words matches × (fault_of (app games) words ≡ [])
     → IsParserErrorFor (FindsNone is_none matches) told → AreRefusedBy app is_none words told
@@ -169,8 +169,8 @@ not_memory : DisplayVersion ≢ OutOfMemory
 not_memory is = cc
 
 -- an error of the parser
-pub error_said : (app : GameNames → App) (is_none : Text → Found → Type 0) (words : List Text) (games : GameNames)
-    (error : Error) (told : BadWords) → are_games games → HasKind (fault_of (app games) words) error
+pub error_said : (app : GameNames → App) (is_none : Found → Text → Found → Type 0) (words : List Text)
+    (games : GameNames) (error : Error) (told : BadWords) → are_games games → HasKind (fault_of (app games) words) error
     → IsParserErrorOf (kind_of error) told → AreRefusedBy app is_none words told
 error_said app is_none words games error bad.Memory names has is = tt
 error_said app is_none words games error (bad.Version line) names has is =

@@ -180,7 +180,9 @@ abbrev pub program_app : App
 program_app =
     with_rule
     (with_rule
+    (with_rule
     (with_rule named_app (flag (codes "EXPLAIN") (codes "explain")))
+    (flag (codes "JSON") (codes "json")))
     (given_as a_moment (codes "SECONDS") (codes "now")))
     (required (codes "FILE"))
 

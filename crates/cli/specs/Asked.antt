@@ -22,7 +22,7 @@ use Rattle.club_requests.specs.declared.questions.Listing.{Listing}
 use Rattle.club_requests.specs.declared.questions.Question.{Question}
 use Rattle.club_requests.specs.declared.questions.Question.TheVariants.{LegalMoves, CrossTable, Record, Members}
 use Rattle.club_requests.specs.declared.questions.Question.TheVariants.{Events, Games, Board}
-use Rattle.club_requests.specs.declared.questions.Question.TheVariants.{EventRecords}
+use Rattle.club_requests.specs.declared.questions.Question.TheVariants.{EventRecords, GamePage, LegalMovesJson}
 use Rattle.club_requests.specs.declared.questions.GameFilter.{GameFilter}
 use Rattle.club_requests.specs.declared.questions.GameFilter.TheVariants.{All, Running, Overdue}
 use Rattle.cli.specs.declared.words.Task.TheVariants.{Init, Request, Ask, Upgrade, Verify, Backup, Batch}
@@ -132,7 +132,7 @@ pub record AreListed (found : Found) (listing : Listing) : Type 0 where
   pub member : option_map string_bytes listing.member ≡ first_value found (codes "MEMBER")
   pub which : AreShownOf found listing.which
 
--- the subcommand with these arguments is this query; the command line has no other queries
+-- the subcommand with these arguments is this query; without `--json` the command line has no other queries
 abbrev pub AsksQuestion : List ℕ → Found → Question → Type 0
 AsksQuestion name found (LegalMoves game) = (name ≡ codes "legal") × IsNumberIn found (codes "GAME") 0 game
 AsksQuestion name found (CrossTable event) = (name ≡ codes "table")
@@ -147,6 +147,12 @@ AsksQuestion name found (EventRecords event) = (name ≡ codes "export-event")
     × (string_bytes event ≡ text_in found (codes "EVENT"))
 AsksQuestion name found _ = ⊥
 
+-- with `--json` the subcommand with these arguments is this query
+abbrev pub AsksJsonQuestion : List ℕ → Found → Question → Type 0
+AsksJsonQuestion name found (LegalMovesJson game) = (name ≡ codes "legal") × IsNumberIn found (codes "GAME") 0 game
+AsksJsonQuestion name found (GamePage game) = (name ≡ codes "show") × IsNumberIn found (codes "GAME") 0 game
+AsksJsonQuestion name found _ = ⊥
+
 -- the subcommand with these arguments is this operation; the commands of a batch are read later
 abbrev pub AsksTask : List ℕ → Found → Task → Type 0
 AsksTask name found Init = name ≡ codes "init"
@@ -157,6 +163,16 @@ AsksTask name found (Backup path) = (name ≡ codes "backup") × (string_bytes p
 AsksTask name found (Request command) = AsksCommand name found command
 AsksTask name found (Batch batch) = ⊥
 
+-- with `--json` the subcommand with these arguments is this operation: a query
+abbrev pub AsksJsonTask : List ℕ → Found → Task → Type 0
+AsksJsonTask name found (Ask question) = AsksJsonQuestion name found question
+AsksJsonTask name found _ = ⊥
+
+-- the subcommand with these arguments is this operation, by whether `--json` is given
+abbrev pub AsksTaskBy : (is_json : Bool) → List ℕ → Found → Task → Type 0
+AsksTaskBy true name found task = AsksJsonTask name found task
+AsksTaskBy false name found task = AsksTask name found task
+
 -- source of an import's record
 abbrev pub record_word : List ℕ → Found → Option (List ℕ)
 record_word name found =
@@ -165,11 +181,11 @@ record_word name found =
 
 -- ---- whole command line: global options and subcommand
 
--- the command line states this order
-pub record AsksOrder (all : Found) (name : List ℕ) (found : Found) (order : Order) : Type 0 where
+-- the command line states this order, by whether `--json` is given
+pub record AsksOrder (is_json : Bool) (all : Found) (name : List ℕ) (found : Found) (order : Order) : Type 0 where
   pub file : string_bytes order.file ≡ text_in all (codes "FILE")
   pub now : IsMomentIn all order.now
-  pub task : AsksTask name found order.task
+  pub task : AsksTaskBy is_json name found order.task
   pub from : option_map string_bytes order.record ≡ record_word name found
   pub explains : IsFlagIn all (codes "EXPLAIN") order.explains
 
@@ -201,12 +217,19 @@ pub record AsksRoundRobin (all found : Found) (given : RoundRobin) : Type 0 wher
   pub names : map string_bytes given.names.items ≡ texts_in found (codes "NAME")
   pub explains : IsFlagIn all (codes "EXPLAIN") given.explains
 
+-- the command line states this, by its subcommand and by whether `--json` is given
+abbrev pub AsksBy : (is_json : Bool) → Found → List ℕ → Found → Invocation → Type 0
+AsksBy is_json all name found (words.Order order) = AsksOrder is_json all name found order
+AsksBy true all name found _ = ⊥
+AsksBy false all name found (words.Serve service) = (name ≡ codes "serve") × AsksService all found service
+AsksBy false all name found (words.Batch batch) = (name ≡ codes "batch") × AsksBatch all found batch
+AsksBy false all name found (words.RoundRobin games) = (name ≡ codes "round-robin") × AsksRoundRobin all found games
+
 -- the command line states this, by its subcommand
-abbrev pub Asks : Found → List ℕ → Found → Invocation → Type 0
-Asks all name found (words.Order order) = AsksOrder all name found order
-Asks all name found (words.Serve service) = (name ≡ codes "serve") × AsksService all found service
-Asks all name found (words.Batch batch) = (name ≡ codes "batch") × AsksBatch all found batch
-Asks all name found (words.RoundRobin games) = (name ≡ codes "round-robin") × AsksRoundRobin all found games
+pub record Asks (all : Found) (name : List ℕ) (found : Found) (said : Invocation) : Type 0 where
+  pub is_json : Bool
+  pub json : IsFlagIn all (codes "JSON") is_json
+  pub asked : AsksBy is_json all name found said
 
 -- ---- errors
 
@@ -225,6 +248,10 @@ abbrev pub task_names : List (List ℕ)
 task_names =
     codes "init" ∷ codes "legal" ∷ codes "export" ∷ codes "show" ∷ codes "export-event" ∷ codes "table"
     ∷ codes "members" ∷ codes "events" ∷ codes "games" ∷ codes "verify" ∷ codes "upgrade" ∷ codes "backup" ∷ []
+
+-- names of the operations whose answers are JSON with `--json`
+abbrev pub json_names : List (List ℕ)
+json_names = codes "legal" ∷ codes "show" ∷ []
 
 -- names of the subcommands that are not a single operation
 abbrev pub other_names : List (List ℕ)
@@ -267,8 +294,19 @@ abbrev pub HasNoTask : List ℕ → Found → Type 0
 HasNoTask name found = (IsOther task_names name × HasNoCommand name found)
     ⊎ ((name ≡ codes "games") × AsksForBoth found)
 
--- The arguments that the parser found are not valid. The grammar excludes all cases but the two exclusive flags
--- and the host names.
-abbrev pub HasNoOrder : List ℕ → Found → Type 0
-HasNoOrder name found = (IsOther other_names name × HasNoTask name found)
+-- the subcommand is no operation whose answer is JSON with `--json`
+abbrev pub HasNoJsonTask : List ℕ → Found → Type 0
+HasNoJsonTask name found = IsOther json_names name
+
+-- the arguments are not valid, by whether `--json` is given
+abbrev pub HasNoOrderBy : (is_json : Bool) → List ℕ → Found → Type 0
+HasNoOrderBy true name found = HasNoJsonTask name found
+HasNoOrderBy false name found = (IsOther other_names name × HasNoTask name found)
     ⊎ ((name ≡ codes "serve") × HasNoService found)
+
+-- The arguments that the parser found are not valid. The grammar excludes all cases but `--json` with another
+-- subcommand, the two exclusive flags and the host names.
+pub record HasNoOrder (all : Found) (name : List ℕ) (found : Found) : Type 0 where
+  pub is_json : Bool
+  pub json : IsFlagIn all (codes "JSON") is_json
+  pub none : HasNoOrderBy is_json name found

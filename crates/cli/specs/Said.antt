@@ -37,19 +37,19 @@ StatesInvocation = AreSaidBy club_app Asks
 -- ---- errors
 
 -- the parser accepts the arguments, but they state no order
-pub record AreNoOrder (app : App) (is_none : Text → Found → Type 0) (words : List Text) : Type 0 where
+pub record AreNoOrder (app : App) (is_none : Found → Text → Found → Type 0) (words : List Text) : Type 0 where
   pub all : Found
   pub name : Text
   pub found : Found
   pub finds : Finds app words all name found
-  pub is : is_none name found
+  pub is : is_none all name found
 
 -- one of these errors is help or invalid arguments
 abbrev pub HasFault : Kinds → Type 0
 HasFault kinds = (kind : ErrorKind) × IsAmong kind kinds × (kind ≢ DisplayVersion)
 
 -- The cause of an error. Out of memory can occur for any arguments; any other error has a cause in them.
-abbrev pub AreRefusedBy : (Names → App) → (Text → Found → Type 0) → List Text → BadWords → Type 0
+abbrev pub AreRefusedBy : (Names → App) → (Found → Text → Found → Type 0) → List Text → BadWords → Type 0
 AreRefusedBy app is_none words bad.Memory = ⊤
 AreRefusedBy app is_none words (bad.Version line) =
     (games : Names) × are_games games × IsAmong DisplayVersion (fault_of (app games) words)

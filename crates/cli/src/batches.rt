@@ -4,7 +4,7 @@ ghost use Rattle.std.specs.Prelude.{◌≡◌, IfErr, IfOk, map, string_bytes};
 ghost use Rattle.clap.specs.Words.{found_of};
 ghost use Rattle.cli.specs.Asked.{AsksBatch, AsksRoundRobin, HasNoCommand, texts_in};
 ghost use Rattle.cli.specs.internal.Asked.{AsksLine, IsParserErrorFor};
-ghost use Rattle.cli.specs.internal.Said.{AreRefusedInLine, AreSaidInLine, AsksOneLine, FindsNone, IsFound};
+ghost use Rattle.cli.specs.internal.Said.{AreRefusedInLine, AreSaidInLine, AsksOneLine, FindsNone, HasNoLine, IsFound};
 
 use crate::parser::line_words;
 use crate::words::{
@@ -150,7 +150,7 @@ fn line_of(alloc: Global, name: &str, words: &ArgMatches<'_>) -> Result<BatchOrd
 // The command of a batch line, from the parser's matches.
 fn parsed(alloc: Global, matches: &ArgMatches<'_>) -> Result<BatchOrder, BadWords>
     ensures ok { IfOk result (IsFound AsksOneLine matches.now) }
-    ensures err { IfErr result (IsParserErrorFor (FindsNone HasNoCommand matches.now)) }
+    ensures err { IfErr result (IsParserErrorFor (FindsNone HasNoLine matches.now)) }
 {
     match matches.subcommand() {
         Some(entered) => line_of(alloc, entered.0, entered.1),

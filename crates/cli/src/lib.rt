@@ -5,7 +5,7 @@
 //! - `read_words` (`ok`), `read_line` (`ok`), `task_of` (`ok`), `words_of` (`ok`): a command line states an order only
 //!   if the parser accepts it. Each value is that of the argument with its name.
 //! - `read_words` (`err`), `read_line` (`err`): it states none only for an error of the parser, for `--running` with
-//!   `--overdue`, or without memory.
+//!   `--overdue`, for `--json` with a subcommand whose answer has no JSON, or without memory.
 //! - `batch_of`, `round_robin_of`, `line_of` (`ok`, `err`): the same for batches, round robins and each line of a
 //!   batch.
 //! - `Order::set_record` (`task`, `file`, `now`, `explains`): a record that was read is put into its order, and the

@@ -454,6 +454,15 @@ fn program<'a>(alloc: Global) -> Result<clap::Command<'a>, AllocError>
             "Says on a second line what a refusal or a fault means, and what can be done",
         ),
     )?;
+    let words = with_word(
+        words,
+        flag(
+            alloc,
+            "JSON",
+            "json",
+            "Prints the answer of 'legal' or 'show' as one JSON document",
+        ),
+    )?;
     let words = with_word(words, now_option(alloc))?;
     with_word(
         words,

@@ -1,12 +1,14 @@
 //! Parsing of the program's command line.
 
 ghost use Rattle.std.specs.Prelude.{◌≡◌, IfErr, IfNone, IfOk, IfSome, Some, codes, map, option_map, string_bytes};
+ghost use Rattle.std.specs.Prelude.{true, false};
 ghost use Rattle.clap.specs.Words.{first_value, found_of, kind_of};
-ghost use Rattle.cli.specs.Asked.{Asks, AsksCommand, AsksImport, AsksQuestion, AsksService, AsksTask};
+ghost use Rattle.cli.specs.Asked.{Asks, AsksBy, AsksCommand, AsksImport, AsksJsonTask, AsksQuestion, AsksService};
+ghost use Rattle.cli.specs.Asked.{AsksTask, AsksTaskBy, HasNoJsonTask, HasNoOrderBy};
 ghost use Rattle.cli.specs.Asked.{AreListed, AreShownOf, IsFlagIn, IsMomentIn, IsNumberIn, game_word};
 ghost use Rattle.cli.specs.Asked.{AsksForBoth, HasNoCommand, HasNoGame, HasNoOrder, HasNoService, HasNoTask};
 ghost use Rattle.cli.specs.Asked.{AsksOrder, record_word, text_in, which_of};
-ghost use Rattle.cli.specs.internal.Asked.{IsTold, IsParserErrorFor};
+ghost use Rattle.cli.specs.internal.Asked.{HasNoTaskBy, IsTold, IsParserErrorFor};
 ghost use Rattle.cli.specs.internal.Imports.{with_text, task_with};
 ghost use Rattle.cli.specs.Said.{AreRefused, StatesInvocation};
 ghost use Rattle.cli.specs.internal.Said.{FindsNone, IsFound, IsParserErrorOf};
@@ -409,6 +411,44 @@ fn task_of(alloc: Global, name: &str, words: &ArgMatches<'_>) -> Result<Task, Ba
     }
 }
 
+// The error for `--json` with a subcommand that has no JSON.
+fn no_json(alloc: Global, name: &str) -> BadWords
+    ensures { IsTold result }
+{
+    match format!(in alloc; "error: '--json' is not for '{name}'\n") {
+        Ok(text) => BadWords::Text(text),
+        Err(_) => BadWords::Memory,
+    }
+}
+
+// The operation of the subcommand `name` with `--json`.
+fn json_task_of(alloc: Global, name: &str, words: &ArgMatches<'_>) -> Result<Task, BadWords>
+    ensures ok { IfOk result (AsksJsonTask name.now (found_of words.now)) }
+    ensures err { IfErr result (IsParserErrorFor (HasNoJsonTask name.now (found_of words.now))) }
+{
+    match name {
+        "legal" => Ok(Task::Ask(Question::LegalMovesJson(number_of(words, "GAME")))),
+        "show" => Ok(Task::Ask(Question::GamePage(number_of(words, "GAME")))),
+        _ => Err(no_json(alloc, name)),
+    }
+}
+
+// The operation of the subcommand `name`, with `--json` or without.
+fn task_by(
+    alloc: Global,
+    is_json: bool,
+    name: &str,
+    words: &ArgMatches<'_>,
+) -> Result<Task, BadWords>
+    ensures ok { IfOk result (AsksTaskBy is_json name.now (found_of words.now)) }
+    ensures err { IfErr result (IsParserErrorFor (HasNoTaskBy is_json name.now (found_of words.now))) }
+{
+    match is_json {
+        true => json_task_of(alloc, name, words),
+        false => task_of(alloc, name, words),
+    }
+}
+
 // The parser's message. What it says of a number that cannot be read is put into an officer's words.
 fn in_plain_words(alloc: Global, message: &str) -> Result<String, AllocError> {
     let text = message.replace(
@@ -496,7 +536,7 @@ fn serve_of(
     all: &ArgMatches<'_>,
     words: &ArgMatches<'_>,
 ) -> Result<Invocation, BadWords>
-    ensures ok { IfOk result (Asks (found_of all.now) (codes "serve") (found_of words.now)) }
+    ensures ok { IfOk result (AsksBy false (found_of all.now) (codes "serve") (found_of words.now)) }
     ensures err { IfErr result (IsParserErrorFor (HasNoService (found_of words.now))) }
 {
     match service_of(alloc, all, words) {
@@ -505,17 +545,25 @@ fn serve_of(
     }
 }
 
-// The order of the subcommand `name`.
+// Whether `--json` is given.
+fn is_json(all: &ArgMatches<'_>) -> bool
+    ensures { IsFlagIn (found_of all.now) (codes "JSON") result }
+{
+    all.get_flag("JSON")
+}
+
+// The order of the subcommand `name`, with `--json` or without.
 fn order_of(
     alloc: Global,
+    is_json: bool,
     all: &ArgMatches<'_>,
     name: &str,
     words: &ArgMatches<'_>,
 ) -> Result<Order, BadWords>
-    ensures ok { IfOk result (AsksOrder (found_of all.now) name.now (found_of words.now)) }
-    ensures err { IfErr result (IsParserErrorFor (HasNoTask name.now (found_of words.now))) }
+    ensures ok { IfOk result (AsksOrder is_json (found_of all.now) name.now (found_of words.now)) }
+    ensures err { IfErr result (IsParserErrorFor (HasNoTaskBy is_json name.now (found_of words.now))) }
 {
-    let task = match task_of(alloc, name, words) {
+    let task = match task_by(alloc, is_json, name, words) {
         Ok(task) => task,
         Err(told) => return Err(told),
     };
@@ -529,6 +577,43 @@ fn order_of(
     })
 }
 
+// The parsed command line with `--json`, from its subcommand.
+fn json_of(
+    alloc: Global,
+    all: &ArgMatches<'_>,
+    name: &str,
+    words: &ArgMatches<'_>,
+) -> Result<Invocation, BadWords>
+    ensures ok { IfOk result (AsksBy true (found_of all.now) name.now (found_of words.now)) }
+    ensures err { IfErr result (IsParserErrorFor (HasNoOrderBy true name.now (found_of words.now))) }
+{
+    match order_of(alloc, true, all, name, words) {
+        Ok(order) => Ok(Invocation::Order(order)),
+        Err(told) => Err(told),
+    }
+}
+
+// The parsed command line without `--json`, from its subcommand.
+fn lines_of(
+    alloc: Global,
+    all: &ArgMatches<'_>,
+    name: &str,
+    words: &ArgMatches<'_>,
+) -> Result<Invocation, BadWords>
+    ensures ok { IfOk result (AsksBy false (found_of all.now) name.now (found_of words.now)) }
+    ensures err { IfErr result (IsParserErrorFor (HasNoOrderBy false name.now (found_of words.now))) }
+{
+    match name {
+        "serve" => serve_of(alloc, all, words),
+        "batch" => Ok(Invocation::Batch(batch_of(alloc, all, words)?)),
+        "round-robin" => Ok(Invocation::RoundRobin(round_robin_of(alloc, all, words)?)),
+        _ => match order_of(alloc, false, all, name, words) {
+            Ok(order) => Ok(Invocation::Order(order)),
+            Err(told) => Err(told),
+        },
+    }
+}
+
 // The parsed command line, from its subcommand.
 fn words_of(
     alloc: Global,
@@ -537,17 +622,12 @@ fn words_of(
     words: &ArgMatches<'_>,
 ) -> Result<Invocation, BadWords>
     ensures ok { IfOk result (Asks (found_of all.now) name.now (found_of words.now)) }
-    ensures err { IfErr result (IsParserErrorFor (HasNoOrder name.now (found_of words.now))) }
+    ensures err { IfErr result (IsParserErrorFor (HasNoOrder (found_of all.now) name.now (found_of words.now))) }
 {
-    match name {
-        "serve" => serve_of(alloc, all, words),
-        "batch" => Ok(Invocation::Batch(batch_of(alloc, all, words)?)),
-        "round-robin" => Ok(Invocation::RoundRobin(round_robin_of(alloc, all, words)?)),
-        _ => match order_of(alloc, all, name, words) {
-            Ok(order) => Ok(Invocation::Order(order)),
-            Err(told) => Err(told),
-        },
+    if is_json(all) {
+        return json_of(alloc, all, name, words);
     }
+    lines_of(alloc, all, name, words)
 }
 
 // The parsed command line, from the parser's matches.

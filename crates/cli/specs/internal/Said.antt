@@ -22,9 +22,12 @@ AsksOneLine all name found line = AsksLine name found line
 abbrev pub AreSaidInLine : List Text → BatchOrder → Type 0
 AreSaidInLine = AreSaidBy line_app AsksOneLine
 
+abbrev pub HasNoLine : Found → Text → Found → Type 0
+HasNoLine all name found = HasNoCommand name found
+
 -- the cause of an error of a batch line
 abbrev pub AreRefusedInLine : List Text → BadWords → Type 0
-AreRefusedInLine = AreRefusedBy line_app HasNoCommand
+AreRefusedInLine = AreRefusedBy line_app HasNoLine
 
 -- ---- in terms of the parser's matches
 
@@ -41,14 +44,14 @@ pub record IsFound {S : Type 0} (asks : Found → Text → Found → S → Type 
   pub asked : asks (found_of matches) name found said
 
 -- the matches state no order
-pub record IsNoneFound (is_none : Text → Found → Type 0) (matches : ArgMatches) : Type 0 where
+pub record IsNoneFound (is_none : Found → Text → Found → Type 0) (matches : ArgMatches) : Type 0 where
   pub name : Text
   pub found : Found
   pub enters : Enters matches name found
-  pub is : is_none name found
+  pub is : is_none (found_of matches) name found
 
 -- the matches have no subcommand, or one that states no order
-abbrev pub FindsNone : (Text → Found → Type 0) → ArgMatches → Type 0
+abbrev pub FindsNone : (Found → Text → Found → Type 0) → ArgMatches → Type 0
 FindsNone is_none matches = (subcommand_rows_of matches ≡ None) ⊎ IsNoneFound is_none matches
 
 -- the result for an error of the parser
