@@ -3,8 +3,9 @@
 
     bench/perft.py [--rounds N]        5 rounds
 
-Beside it runs a plain C program for draughts (bench/draughts.c), and Fairy-Stockfish for shogi, where it is
-installed. All take turns, and the least processor time counts; that of a start is subtracted. The counts must agree.
+Beside it run two C programs for draughts, over bitboards and over a plain board (bitboards.c and draughts.c of this
+folder), and Fairy-Stockfish for shogi, where it is installed. All take turns, and the least processor time counts; that
+of a start is subtracted. The counts must agree.
 """
 import argparse
 import os
@@ -51,10 +52,11 @@ class Ours:
 
 
 class InC:
-    name = "C"
+    """A program in C of this folder."""
 
-    def __init__(self, program):
-        self.program = program
+    def __init__(self, name, folder):
+        self.name, self.program = f"{name}.c", folder / name
+        subprocess.run(["gcc", "-O2", "-o", self.program, BENCH / self.name], check=True)
 
     def count(self, _game, depth, position):
         printed, took = run([self.program, depth, *([position] if position else [])])
@@ -104,11 +106,11 @@ def main():
     ours = Ours(our_perft())
     fairy = shutil.which("fairy-stockfish", path=f"{os.environ.get('PATH', '')}:/usr/games")
     with tempfile.TemporaryDirectory() as folder:
-        in_c = pathlib.Path(folder, "draughts")
-        subprocess.run(["gcc", "-O2", "-o", in_c, BENCH / "draughts.c"], check=True)
+        in_c = [InC(name, pathlib.Path(folder)) for name in ("bitboards", "draughts")]
         for case in POSITIONS:
             if case[1] == "draughts":
-                compare(ours, InC(in_c), rounds, case)
+                for other in in_c:
+                    compare(ours, other, rounds, case)
             elif fairy:
                 compare(ours, FairyStockfish(fairy), rounds, case)
             else:

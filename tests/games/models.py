@@ -4,9 +4,9 @@
     python3 tests/games/models.py [--games N]
 
 Known counts are the lines of crates/scripts/stdin that count sequences of moves. The other programs are bench/draughts.c
-and fairy-stockfish. At each position of N random games of each kind (by default 20 of draughts and 8 of shogi) the
-plain C program must count the same moves, and fairy-stockfish must list the same. Pawn drops that mate do not count,
-since fairy-stockfish 11.1 lists them as legal. What is not installed is skipped.
+and bench/bitboards.c, and fairy-stockfish. At each position of N random games of each kind (by default 20 of draughts
+and 8 of shogi) the C programs must count the same moves, and fairy-stockfish must list the same. Pawn drops that mate
+do not count, since fairy-stockfish 11.1 lists them as legal. What is not installed is skipped.
 """
 import argparse
 import os
@@ -77,25 +77,31 @@ def positions_of(game, seed):
 
 
 def compare_with_c(games):
-    """The plain C program counts all known numbers, and the moves of random games."""
+    """The C programs, over a plain board and over bitboards, count all known numbers, and the moves of random games."""
     if not shutil.which("gcc"):
-        skip("a plain C program counts the moves of draughts", "there is no gcc")
+        skip("C programs count the moves of draughts", "there is no gcc")
         return
-    with tempfile.TemporaryDirectory() as folder:
-        program = f"{folder}/draughts"
-        subprocess.run(["gcc", "-O2", "-o", program, str(TOP / "bench/draughts.c")], check=True)
+    found = [it for seed in range(games) for it in positions_of("draughts", seed)]
+    for name in "draughts.c", "bitboards.c":
+        with tempfile.TemporaryDirectory() as folder:
+            program = f"{folder}/counts"
+            subprocess.run(["gcc", "-O2", "-o", program, str(TOP / "bench" / name)], check=True)
+            compare_counts(name, program, found)
 
-        def counted(depth, text):
-            words = [program, str(depth), *([] if text == "opening" else [text])]
-            return int(subprocess.run(words, capture_output=True, text=True, check=True).stdout.split()[0])
 
-        lines = [it for it in perft_lines() if it[0] == "draughts"]
-        check(f"bench/draughts.c counts {len(lines)} known numbers of sequences", [number for *_, number in lines],
-              [counted(depth, POSITIONS.get(text, text)) for _, text, depth, _ in lines])
-        found = [it for seed in range(games) for it in positions_of("draughts", seed)]
-        differing = [draughts.fen(position) for position, moves in found
-                     if counted(1, draughts.fen(position)) != len(moves)]
-        check(f"bench/draughts.c counts the moves of {len(found)} positions as the model does", [], differing)
+def compare_counts(name, program, found):
+    """A program counts the known numbers, and the moves of these positions as the model does."""
+
+    def counted(depth, text):
+        words = [program, str(depth), *([] if text == "opening" else [text])]
+        return int(subprocess.run(words, capture_output=True, text=True, check=True).stdout.split()[0])
+
+    lines = [it for it in perft_lines() if it[0] == "draughts"]
+    check(f"bench/{name} counts {len(lines)} known numbers of sequences", [number for *_, number in lines],
+          [counted(depth, POSITIONS.get(text, text)) for _, text, depth, _ in lines])
+    differing = [draughts.fen(position) for position, moves in found
+                 if counted(1, draughts.fen(position)) != len(moves)]
+    check(f"bench/{name} counts the moves of {len(found)} positions as the model does", [], differing)
 
 
 class Fairy:
