@@ -350,7 +350,7 @@ fn place_in(row: &Row) -> Result<usize, TableFault>
 ///
 /// # Errors
 ///
-/// `Store` if a call of the database fails, or the last id is not a positive integer.
+/// `Store` if a call of the database fails, or the greatest id is no integer or negative.
 ///
 /// # Guarantees
 ///
