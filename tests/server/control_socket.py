@@ -294,6 +294,37 @@ def has_connection(listener):
     return True
 
 
+def send_slowly(listener):
+    """Sends a byte of an endless answer each second to whoever connects, until the listener is closed."""
+    def send_to(peer):
+        with contextlib.suppress(OSError), peer:
+            while True:
+                peer.send(b"0")
+                time.sleep(1)
+
+    with contextlib.suppress(OSError):
+        while True:
+            threading.Thread(target=send_to, args=(listener.accept()[0],), daemon=True).start()
+
+
+def slow_servers():
+    """A command waits ten seconds for a whole answer, however slowly that comes, and five for the file."""
+    pathlib.Path(SOCKET).unlink(missing_ok=True)
+    listener = socket.socket(socket.AF_UNIX)
+    listener.bind(SOCKET)
+    listener.listen()
+    threading.Thread(target=send_slowly, args=(listener,), daemon=True).start()
+    began = time.monotonic()
+    done = club("c.db", "member", "patient", "keypatient1")
+    took, is_in_time = time.monotonic() - began, is_within(17, began)
+    check("a command beside a server that never ends its answer runs over the file", (0, True),
+          (done[0], done[1].startswith("accepted member ")))
+    check("it waits for the answer for ten seconds in all", (True, True), (took >= 10, is_in_time))
+    listener.shutdown(socket.SHUT_RDWR)
+    listener.close()
+    os.remove(SOCKET)
+
+
 def end_of_server():
     words = [PROGRAM, "c.db", "serve", "--count", "0", str(free_port())]
     with subprocess.Popen(words, stdout=subprocess.PIPE) as process:
@@ -302,7 +333,7 @@ def end_of_server():
 
 
 PARTS = (commands_and_queries, commands_beside_requests, batches, killed_batches, killed_servers, dead_sockets,
-         two_servers, long_paths, foreign_sockets, end_of_server)
+         two_servers, long_paths, foreign_sockets, slow_servers, end_of_server)
 
 
 def main():

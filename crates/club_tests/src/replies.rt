@@ -5,10 +5,11 @@ use club_requests::{
     Answer, AnswerChallenge, Command, GameCommand, MoveAnswer, OnGame, OpenChallenge, Outcome,
     OutsideEnd, Question, Refusal, Who, Withdraw,
 };
+use control_socket::{Countdown, Deadline};
 use http_desk::{
     AttributedReply, ClubFault, ClubService, DeskFault, Routes, UnavailableClub, answer,
 };
-use server::{Connection, Countdown, Deadline, serve_one};
+use server::{Connection, serve_one};
 use squares::Score;
 use std::alloc::{AllocError, Global};
 use std::io;

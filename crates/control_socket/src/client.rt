@@ -8,17 +8,16 @@ ghost use Rattle.control_socket.specs.Printed.{IsBegun, IsMade, print_of};
 ghost use Rattle.control_socket.specs.internal.Said.{encode_order};
 
 use crate::answers::{OrderAnswer, hear_answer};
+use crate::deadline::with_deadline;
 use crate::frames::encode_order;
 use crate::peers::connect;
 use crate::writing::write_reply;
 use clocks::Moment;
 use std::alloc::{AllocError, Global};
-use std::io;
 use std::io::Write;
-use std::os::unix::net::UnixStream;
 use std::time::Duration;
 
-// The time limit of each read and write; after it the order is executed without the server.
+// The time limit of an exchange; after it the order is executed without the server.
 const ORDER_SECONDS: u64 = 10;
 
 // The exit status of an order that was done.
@@ -86,12 +85,6 @@ fn send_order<W: Write>(
     }
 }
 
-fn limited(stream: &UnixStream) -> io::Result<()> {
-    let limit = Some(Duration::from_secs(ORDER_SECONDS));
-    stream.set_write_timeout(limit)?;
-    stream.set_read_timeout(limit)
-}
-
 /// Has the server that holds a file execute a command line at a timestamp, and returns its answer.
 ///
 /// `None` if no server holds the file, or it gives no complete answer: then the order took effect once or not at all.
@@ -103,10 +96,10 @@ pub fn order(
     moment: Moment,
     text: &[u8],
 ) -> Option<OrderAnswer> {
-    let stream = connect(rt, file)?;
-    limited(&stream).ok()?;
-    send_order(rt.alloc(), &mut &stream, words, moment, text)?;
-    hear_answer(rt.alloc(), &mut &stream).ok()?
+    let socket = connect(rt, file)?;
+    let mut stream = with_deadline(rt, &socket, Duration::from_secs(ORDER_SECONDS));
+    send_order(rt.alloc(), &mut stream, words, moment, text)?;
+    hear_answer(rt.alloc(), &mut stream).ok()?
 }
 
 // Prints a text; returns the status if all of it was written.

@@ -14,6 +14,7 @@
 //!   answer is the print of the club's answer, or a prefix if writing fails.
 //! - `print_answered` (`printed`, `small`): the command line prints exactly that, with its status, or a prefix if its
 //!   stream fails.
+//! - `Deadline` (`remaining`, `contents`): a stream with a deadline reads and writes what the stream below does.
 //! - `should_release`: the file is released on request as soon as no request is queued from its opening.
 //! - `socket_permissions`, `is_trusted`: the socket has mode 600, or 660 if the group may read and write the file. A
 //!   socket is trusted only if it belongs to the file's owner or to root.
@@ -22,6 +23,7 @@
 mod answers;
 mod client;
 mod control_requests;
+mod deadline;
 mod frames;
 mod hold;
 mod listener;
@@ -33,6 +35,7 @@ mod writing;
 
 pub use answers::OrderAnswer;
 pub use client::{order, print_answered};
+pub use deadline::{Countdown, Deadline, LimitedSocket, Timer, with_deadline};
 pub use hold::should_release;
 pub use listener::{CONTROL_TOKEN, ControlListener, FileLease, PendingOrder, request_lease};
 pub use orders::{Operation, OrderFault, serve_order};

@@ -4,7 +4,6 @@ ghost use Rattle.std.specs.Prelude.{◌≢◌};
 ghost use Rattle.control_socket.specs.internal.Received.{HasReceived};
 ghost use Rattle.server.specs.declared.request_buffer.ReadProgress.TheVariants as progress_is;
 
-use crate::deadline::{Countdown, Deadline};
 use crate::request_buffer::{ReadProgress, RequestBuffer};
 use mio::unix::SourceFd;
 use mio::{Interest, Poll, Token};
@@ -12,57 +11,7 @@ use std::io;
 use std::io::{ErrorKind, Read};
 use std::net::TcpStream;
 use std::os::fd::AsRawFd;
-use std::time::{Duration, Instant};
-
-// The time left for the calls of a socket; it runs from the first call.
-#[derive(Drop)]
-pub(crate) struct Timer<'a> {
-    rt: &'a HostRuntime,
-    stream: &'a TcpStream,
-    begin: Option<Instant>,
-    limit: Duration,
-}
-
-impl Timer<'_> {
-    // The time of the first call: now, if there was none.
-    fn begin(&mut self) -> io::Result<Instant> {
-        if let Some(begin) = self.begin {
-            return Ok(begin);
-        }
-        let now = Instant::now(self.rt)?;
-        self.begin = Some(now);
-        Ok(now)
-    }
-}
-
-impl Countdown for Timer<'_> {
-    fn allow(&mut self) -> io::Result<()> {
-        let spent = self.begin()?.elapsed(self.rt)?;
-        let left = match self.limit.checked_sub(spent) {
-            Some(left) => left,
-            None => return Err(io::Error::from(ErrorKind::TimedOut)),
-        };
-        if left.is_zero() {
-            return Err(io::Error::from(ErrorKind::TimedOut));
-        }
-        self.stream.set_read_timeout(Some(left))
-    }
-}
-
-// A socket with one deadline over all its calls, in place of a timeout for each.
-pub(crate) fn with_deadline<'c>(
-    rt: &'c HostRuntime,
-    stream: &'c TcpStream,
-    limit: Duration,
-) -> Deadline<&'c TcpStream, Timer<'c>> {
-    let timer = Timer {
-        rt,
-        stream,
-        begin: None,
-        limit,
-    };
-    Deadline::new(stream, timer)
-}
+use std::time::Duration;
 
 /// Registers a socket with a poll, or changes its token and interest there. An event that is due is reported.
 ///

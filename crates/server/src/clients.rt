@@ -6,7 +6,7 @@ ghost use Rattle.server.specs.Visits.{HasActedOn, HasShutReply, IsAnswered, IsSe
 ghost use Rattle.server.specs.Visits.{IsForeign, IsRejection};
 
 use crate::access_log::{EndReason, LogEntry};
-use crate::client::{Client, TcpClient, watch, with_deadline};
+use crate::client::{Client, TcpClient, watch};
 use crate::client_queues::{ClientQueues, MOST_CLIENTS};
 use crate::connections::Served;
 use crate::key_limit::{KeyLimit, is_wrong_key};
@@ -22,6 +22,7 @@ use crate::sending::{
 use crate::serve::{Connection, Exchange};
 use crate::times::first_timestamp;
 use clocks::Moment;
+use control_socket::with_deadline;
 use http_desk::{ClubFault, ClubService, DeskFault, UnavailableClub};
 use mio::{Events, Interest, Poll, Token};
 use std::alloc::Global;

@@ -32,7 +32,6 @@ mod client;
 mod client_queues;
 mod clients;
 mod connections;
-mod deadline;
 mod file_hold;
 mod key_limit;
 mod lingering_close;
@@ -49,7 +48,6 @@ mod serve;
 mod times;
 
 pub use connections::{Connections, Served, serve_unavailable};
-pub use deadline::{Countdown, Deadline};
 pub use poll_loop::Server;
 pub use responder::ServerOptions;
 pub use serve::{Connection, Exchange, serve_one};
