@@ -77,12 +77,11 @@ mod shown;
 mod unread;
 
 pub use copying::{BackupResult, back_up};
+pub use desk_club::DeskClub;
+pub use faults::fault_of_opening;
 pub use opening::RepeatableStart;
 pub use order::{execute_order, open_files};
 pub use preflight::has_log;
 pub use releasing::release_files;
-pub use serving_session::serve_files;
-
-pub use desk_club::DeskClub;
-pub use faults::fault_of_opening;
 pub use serving::serve_club;
+pub use serving_session::serve_files;
