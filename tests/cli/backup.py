@@ -31,6 +31,7 @@ ORDERS = [*TWO_MEMBERS, "event cup draughts 86400 0", "event fuji shogi 86400 60
           "seat h fuji bert anna", "move 2 1 7g7f",
           *(f"move 1 {ply} {text}" for ply, text in enumerate(DRAUGHTS_MOVES, 1))]
 NO_COPY = (3, "store 77 Output")
+LOG_HEADER = 32  # bytes of a write-ahead log before its first frame
 LINE = "FILE2 must be a new name, not that of a log, in a folder that can be written and has room"
 
 
@@ -200,20 +201,25 @@ def beside_a_server():
 
 
 def full_disks():
-    """No file may grow above a limit: the copy is whole, or `verify` finds no club in it, and the club is as it was."""
+    """No file may grow above a limit: the copy is whole, or `verify` finds no club in it, and the club is as it was.
+
+    Where not even the header of a log has room, the club itself is not opened.
+    """
     whole, done, before = os.path.getsize("c.db"), set(), folder_content()
+    no_log = (3, "store 73 Store")
     steps = [0, 1, 100, 511, 4095, 4096, 4097, 8192, *range(12288, 2 * whole, 16384), 4 * whole]
     for size in steps:
         said = club("c.db", "backup", f"full{size}.db", preexec_fn=limit_files_to(size))
         done.add(said)
         found = club(f"full{size}.db", "verify")
         if said != (0, "copied"):
+            due = NO_COPY if size >= LOG_HEADER else no_log
             check(f"a backup with room for {size} bytes is no club or sound",
-                  (NO_COPY, True), (said, found in ((3, "store 70 Foreign"), (0, "sound"))))
+                  (due, True), (said, found in ((3, "store 70 Foreign"), (0, "sound"))))
         else:
             check(f"a backup with room for {size} bytes is complete",
                   ((0, "sound"), rows("c.db")), (found, rows(f"full{size}.db")))
-    check("some backups had enough room, and some had not", {NO_COPY, (0, "copied")}, done)
+    check("some backups had enough room, and some had not", {NO_COPY, (0, "copied")}, done - {no_log})
     check("backups on a full disk leave the club unchanged",
           before, {name: held for name, held in folder_content().items() if name in before})
 

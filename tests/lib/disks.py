@@ -310,15 +310,20 @@ def joined(choices):
 
 
 class Disk:
-    """What is synced of each file, what was done to it since, and the names made or removed since the folder was synced."""
+    """What is synced of each file, what was done to it since, and the names made or removed since the folder was synced.
+
+    A name that is removed and made again before that may name any of its files, the latest or one that was removed.
+    """
 
     def __init__(self, files):
         self.kept, self.loose, self.fresh, self.gone = dict(files), {name: [] for name in files}, [], []
+        self.removed = []  # a name, with what was synced of a removed file and what was done to it since
 
     def take(self, call):
         if call.kind == "make":
             if call.name in self.gone:
-                raise Unknown(f"{call.name} is made again before the folder was synced")
+                self.gone.remove(call.name)
+                self.removed.append((call.name, self.kept.pop(call.name), self.loose.pop(call.name)))
             self.kept.setdefault(call.name, b"")
             self.loose.setdefault(call.name, [])
             self.fresh.append(call.name)
@@ -330,7 +335,7 @@ class Disk:
         elif call.kind == "sync":
             for name in self.gone:
                 del self.kept[name], self.loose[name]
-            self.fresh, self.gone = [], []
+            self.fresh, self.gone, self.removed = [], [], []
         elif call.kind in ("write", "cut"):
             self.loose[call.name].append(call)
 
@@ -342,9 +347,11 @@ class Disk:
         """What the folder may hold now."""
         choices = []
         for name in sorted(self.kept):
-            kept, loose = self.kept[name], self.loose[name]
-            of_file = [(how, (name, kept, tuple(calls))) for how, calls in outcomes(len(kept), loose, draw)]
-            choices.append([("no name", None), *of_file] if name in self.fresh + self.gone else of_file)
+            files = [("", self.kept[name], self.loose[name])]
+            files += [("a removed file, ", *file) for other, *file in self.removed if other == name]
+            of_files = [(which + how, (name, kept, tuple(calls))) for which, kept, loose in files
+                        for how, calls in outcomes(len(kept), loose, draw)]
+            choices.append([("no name", None), *of_files] if name in self.fresh + self.gone else of_files)
         for chosen in joined(choices) if choices else [()]:
             parts_changed = [f"of {name} {how}" for name, (how, _) in zip(sorted(self.kept), chosen) if how != "nothing"]
             parts = tuple(part for _, part in chosen if part)

@@ -14,7 +14,7 @@
 //!   answer is the print of the club's answer, or a prefix if writing fails.
 //! - `print_answered` (`printed`, `small`): the command line prints exactly that, with its status, or a prefix if its
 //!   stream fails.
-//! - `Deadline` (`remaining`, `contents`): a stream with a deadline reads and writes what the stream below does.
+//! - `Deadline`: a stream with a deadline reads and writes what the stream below does.
 //! - `should_release`: the file is released on request as soon as no request is queued from its opening.
 //! - `socket_permissions`, `is_trusted`: the socket has mode 600, or 660 if the group may read and write the file. A
 //!   socket is trusted only if it belongs to the file's owner or to root.
