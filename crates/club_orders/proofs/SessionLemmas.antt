@@ -3,11 +3,12 @@ use Rattle.std.proofs.Common.{◌≡◌, List, [], ◌++◌, append-nil, inl, in
 use Rattle.sqlite.specs.Schema.{Schema}
 use Rattle.sqlite.specs.Tree.{Trees}
 use Rattle.sqlite.specs.State.{State}
-use Rattle.store_tables.specs.Over.{IsFirstBeside, Neighbours}
+use Rattle.store_tables.specs.Migrations.{HoldsInVersion}
+use Rattle.store_tables.specs.Over.{Neighbours}
 use Rattle.store_tables.specs.Placed.{HasClubTables, HasTables}
 use Rattle.store_tables.specs.declared.names.Version.{Version}
 use Rattle.store_tables.specs.declared.names.Version.TheVariants.{First, Current}
-use Rattle.store_tables.proofs.Proved.{has_first_tables, leaves_beside}
+use Rattle.store_tables.proofs.Proved.{has_first_tables, leaves_in_version}
 use Rattle.club_rows.specs.Club.{ClubState, tables}
 use Rattle.club_rows.specs.FirstSchema.{IsFirstClub, first_tables}
 use Rattle.store.specs.Histories.{HistoryStep, IsReachable, IsReachableIn, IsHistory}
@@ -33,12 +34,12 @@ left_led from them sessions s at db left = record {
   after = at.after;
   legal = at.legal;
   leads = at.leads;
-  leaves = leaves_beside them (tables at.after) s at.exactly db left;
+  leaves = leaves_in_version Current them (tables at.after) s at.exactly db left;
 }
 
 -- tables that are not those of schema 1 stand where the sessions lead in schema 2
 pub newer_history : (from version : Version) (them : Neighbours) (sessions : List HistoryStep) (s : State)
-    → ((c : ClubState) → IsFirstClub c → ¬ IsFirstBeside them (first_tables c) s)
+    → ((c : ClubState) → IsFirstClub c → ¬ HoldsInVersion First them (first_tables c) s)
     → IsHistory from version them sessions s → (version ≡ Current) × IsHistory from Current them sessions s
 newer_history from First them sessions s newer at = absurd (newer at.after at.legal at.exactly)
 newer_history from Current them sessions s newer at = (refl, at)
@@ -50,7 +51,6 @@ first_tables_of schema (version, has) = has_first_tables version schema has.0
 -- wherever sessions lead, the tables of schema 1 stand
 pub stand_first : (from version : Version) (them : Neighbours) (sessions : List HistoryStep) (s : State)
     → IsHistory from version them sessions s → HasTables First s.now.schema
-stand_first from First them sessions s at =
-    subst (HasTables First) (sym at.exactly.exactly.now.schema) at.exactly.before.tables.0
-stand_first from Current them sessions s at =
-    subst (HasTables First) (sym at.exactly.exactly.now.schema) (has_first_tables Current them.schema at.exactly.clear.club)
+stand_first from version them sessions s at =
+    subst (HasTables First) (sym at.exactly.holds.exactly.now.schema)
+    (has_first_tables at.exactly.before.version at.exactly.before.schema at.exactly.holds.clear.club)

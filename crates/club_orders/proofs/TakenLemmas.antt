@@ -5,7 +5,8 @@ use Rattle.sqlite.specs.State.{State}
 use Rattle.sqlite.specs.Tree.{Trees}
 use Rattle.store_tables.specs.Contents as of_schema
 use Rattle.store_tables.specs.Contents.{Content}
-use Rattle.store_tables.specs.Over.{HasRows, HoldsClubAmong, IsFirstBeside, LeavesBeside, Neighbours}
+use Rattle.store_tables.specs.Migrations.{HoldsInVersion}
+use Rattle.store_tables.specs.Over.{HasRows, HoldsClubAmong, LeavesBeside, Neighbours}
 use Rattle.store_tables.specs.Placed.{HasTablesOf}
 use Rattle.store_tables.specs.Reading.{KeepsContent}
 use Rattle.store_tables.specs.Room.{IsWithoutClub, LeavesNoClub}
@@ -22,7 +23,7 @@ use Rattle.club_orders.specs.declared.report.Report.TheVariants.{Unopened}
 use Rattle.club_orders.specs.Refused.{HasFirst}
 use Rattle.club_orders.specs.Report.{IfTaken}
 use Rattle.store.specs.Histories.{HasState}
-use Rattle.store.proofs.Proved.{holds_beside, holds_first}
+use Rattle.store.proofs.Proved.{holds_beside, holds_in_version}
 
 -- what a later opening would find the connection holds exactly
 abbrev pub IsExact : State → Type 0
@@ -43,32 +44,33 @@ module _ (club : ClubState) (s : State) (exact : IsExact s) (has : HasState club
       → (HoldsRows Current (tables club) s.now → is_of_club Current s.now.schema ≡ true → P) → P
   is_taken P takes =
       let at = stands_beside in
-      takes (holds_beside has.them (tables club) s at) (ap (is_of_club Current) at.exactly.now.schema ∙ has.shape)
+      takes (holds_beside has.them (tables club) s has.version at) (ap (is_of_club Current) at.exactly.now.schema ∙ has.shape)
 
   pub stand_beside : HasTablesOf Current s.now.schema
-  stand_beside = subst (HasTablesOf Current) (sym stands_beside.exactly.now.schema) (has.leaves.clear.club, tt)
+  stand_beside = (holds_beside has.them (tables club) s has.version stands_beside).schema
 
   -- a call that answered left the rows
   pub still_there : (new : State) → KeepsContent s new → HasRows (tables club) new
   still_there new kept =
-      rows_beside has.them (tables club) new (still_beside s new kept has.them (tables club) stands_beside)
+      rows_beside has.them (tables club) new has.version (still_beside s new kept has.them (tables club) stands_beside)
 
 -- the same of a club of schema 1
 module _ (them : Neighbours) (club : ClubState) (s : State) (exact : IsExact s)
     (has : HasFirst them club s.committed.trees) where
-  pub first_beside : IsFirstBeside them (first_tables club) s
+  pub first_beside : HoldsInVersion First them (first_tables club) s
   first_beside = record {
-    schema = has.leaves.schema;
     before = has.leaves.before;
-    exactly = exact _ _ has.leaves.leaves;
+    is = has.leaves.is;
+    migrates = has.leaves.migrates;
+    holds = record { clear = has.leaves.leaves.clear; exactly = exact _ _ has.leaves.leaves.leaves };
   }
 
   pub first_shape : is_of_club First s.now.schema ≡ true
-  first_shape = ap (is_of_club First) (exact _ _ has.leaves.leaves).now.schema ∙ has.shape
+  first_shape = ap (is_of_club First) (exact _ _ has.leaves.leaves.leaves).now.schema ∙ has.shape
 
   pub is_taken_first : (P : Type 0)
       → (HoldsRows First (first_tables club) s.now → is_of_club First s.now.schema ≡ true → P) → P
-  is_taken_first P takes = takes (holds_first them (first_tables club) s first_beside) first_shape
+  is_taken_first P takes = takes (holds_in_version First them (first_tables club) s has.version first_beside) first_shape
 
 -- a connection that opens on the tables of other programs alone has exactly these
 pub without_club : (them : Neighbours) (s : State) → IsExact s → LeavesNoClub them s.committed.trees

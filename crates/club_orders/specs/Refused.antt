@@ -1,7 +1,8 @@
 -- The tasks that open a club, and the promises about files that are opened, rejected or not upgraded.
 use Rattle.std.specs.Prelude.{◌≡◌, ◌⊎◌, pos, true, ⊤}
 use Rattle.sqlite.specs.Tree.{Trees}
-use Rattle.store_tables.specs.Over.{LeavesFirst, Neighbours}
+use Rattle.store_tables.specs.Migrations.{LeavesInVersion}
+use Rattle.store_tables.specs.Over.{Neighbours}
 use Rattle.store_tables.specs.declared.names.Version.{Version}
 use Rattle.store_tables.specs.declared.names.Version.TheVariants.{First, Current}
 use Rattle.club_rows.specs.Club.{ClubState}
@@ -19,11 +20,12 @@ abbrev pub IsOlder : OpenFault → Type 0
 IsOlder fault = (fault ≡ Schema (pos 1)) ⊎ ((fault ≡ Store) ⊎ (fault ≡ Memory))
 
 -- The database has the tables of a legal state of schema 1, alone or beside foreign tables, in a schema equivalent to a
--- club's.
+-- club's. A migration leads from there to the current version, with these neighbours.
 pub record HasFirst (them : Neighbours) (s : ClubState) (trees : Trees) : Type 0 where
   pub legal : IsFirstClub s
-  pub leaves : LeavesFirst them (first_tables s) trees
-  pub shape : is_of_club First leaves.schema ≡ true
+  pub version : them.version ≡ Current
+  pub leaves : LeavesInVersion First them (first_tables s) trees
+  pub shape : is_of_club First leaves.before.schema ≡ true
 
 -- every task opens a club, except its creation and its upgrade
 abbrev pub IfOpensClub : Task → Type 0 → Type 0

@@ -3,7 +3,8 @@ use Rattle.std.specs.Prelude.{◌≡◌, ◌≢◌, ◌⊎◌, ℕ, List, [], �
 use Rattle.std.specs.Prelude.{Bool, true, false, codes, decimal, ⊤}
 use Rattle.sqlite.specs.Tree.{Trees}
 use Rattle.store_tables.specs.Contents.{IsEmpty}
-use Rattle.store_tables.specs.Over.{LeavesBeside, LeavesFirst, Neighbours, alone}
+use Rattle.store_tables.specs.Migrations.{LeavesInVersion}
+use Rattle.store_tables.specs.Over.{LeavesBeside, Neighbours, alone}
 use Rattle.store_tables.specs.Room.{LeavesNoClub}
 use Rattle.store_tables.specs.declared.names.Version.{Version}
 use Rattle.store_tables.specs.declared.names.Version.TheVariants.{First, Current}
@@ -244,7 +245,7 @@ IsUpgraded _ = ⊥
 -- the tables of the state in schema 2; if the upgrade failed, perhaps in schema 1
 abbrev pub AreCarried : Neighbours → ClubState → Report → Trees → Type 0
 AreCarried them s Upgraded trees = LeavesBeside them (tables s) trees
-AreCarried them s _ trees = LeavesFirst them (first_tables s) trees ⊎ LeavesBeside them (tables s) trees
+AreCarried them s _ trees = LeavesInVersion First them (first_tables s) trees ⊎ LeavesBeside them (tables s) trees
 
 -- the file was of schema 2; or a call of the database failed, or memory ran out
 abbrev pub IsRepeated : Report → Type 0
@@ -269,8 +270,8 @@ OnlyUnopened _ Holds = ⊥
 
 -- There is an empty club of schema 2; or none was created, and there is no table, or an empty club after all.
 abbrev pub IsBegun : Report → Trees → Type 0
-IsBegun Ready trees = IsReachable Current Current alone [] trees
-IsBegun _ trees = IsEmpty trees ⊎ IsReachable Current Current alone [] trees
+IsBegun Ready trees = IsReachable Current Current (alone Current) [] trees
+IsBegun _ trees = IsEmpty trees ⊎ IsReachable Current Current (alone Current) [] trees
 
 -- The same for a club that is created beside these foreign tables.
 abbrev pub IsBegunBehind : Neighbours → Report → Trees → Type 0

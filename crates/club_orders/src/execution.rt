@@ -169,7 +169,7 @@ fn run_upgrade<S: Alter>(alloc: Global, conn: Connection<S>) -> (Report, Connect
     ensures refuses { HasCleanDisk (state S.Store result.1) →
         IfUnopened result.0 (IsUpgradeRefusal (state S.Store conn) (state S.Store result.1)) }
     ensures history { HasCleanDisk (state S.Store result.1) → Opens (state S.Store conn) → IsLive (state S.Store conn) →
-        (from : _) (versions : _) (them : _) (chapters : _) →
+        (from : _) (versions : _) (them : _) (chapters : _) → them.version ≡ Current →
         IsReachableIn from versions them chapters (state S.Store conn).committed.trees →
         (db : _) → (state S.Store result.1).may_leave db →
         IsReachableIn from (schemas_after_upgrade result.0 versions) them (chapters ++ upgrade_of result.0 ∷ []) db }
@@ -322,7 +322,7 @@ pub fn act<S: Alter, W: Write>(
         (has : HasState s (state S.Store conn).committed.trees) → (db : _) → (state S.Store result.1).may_leave db →
         LeavesTask has.them s task.now moment result.0 db }
     ensures history { HasCleanDisk (state S.Store result.1) → Opens (state S.Store conn) → IsLive (state S.Store conn) →
-        (from : _) (versions : _) (them : _) (sessions : _) →
+        (from : _) (versions : _) (them : _) (sessions : _) → them.version ≡ Current →
         IsReachableIn from versions them sessions (state S.Store conn).committed.trees →
         (db : _) → (state S.Store result.1).may_leave db →
         IsReachableIn from (schemas_after task.now result.0 versions) them

@@ -97,10 +97,10 @@ pub(crate) trait Execute {
         ensures clean { doubt (state S.Store club.old.connection).is_clean ≤ doubt
             (state S.Store club.new.connection).is_clean }
         ensures answer { HasCleanDisk (state S.Store club.new.connection) → (them : _) (s : ClubState) →
-            IsClub s → HoldsClubAmong them (tables s) (state S.Store club.old.connection) →
+            IsClub s → them.version ≡ Current → HoldsClubAmong them (tables s) (state S.Store club.old.connection) →
             IsAnswer self.now s moment (W.contents out.old) (W.contents out.new) result }
         ensures next_state { HasCleanDisk (state S.Store club.new.connection) → (them : _) (s : ClubState) →
-            IsClub s → HoldsClubAmong them (tables s) (state S.Store club.old.connection) →
+            IsClub s → them.version ≡ Current → HoldsClubAmong them (tables s) (state S.Store club.old.connection) →
             (db : _) → (state S.Store club.new.connection).may_leave db → Leaves self.now them s moment result db }
         ensures history { HasCleanDisk (state S.Store club.new.connection) → (from : _) (them : _) (sessions : _) →
             IsHistory from Current them sessions (state S.Store club.old.connection) →
@@ -147,7 +147,7 @@ pub(crate) fn execute_in_club<S: Alter, T: Execute, W: Write>(
         (has : HasState s (state S.Store conn).committed.trees) → (db : _) → (state S.Store result.1).may_leave db →
         T.Leaves task.now has.them s moment result.0 db }
     ensures history { HasCleanDisk (state S.Store result.1) → Opens (state S.Store conn) → IsLive (state S.Store conn) →
-        (from : _) (versions : _) (them : _) (sessions : _) →
+        (from : _) (versions : _) (them : _) (sessions : _) → them.version ≡ Current →
         IsReachableIn from versions them sessions (state S.Store conn).committed.trees →
         (db : _) → (state S.Store result.1).may_leave db →
         IsReachableIn from versions them (sessions ++ T.chapters task.now moment result.0) db }

@@ -43,6 +43,7 @@ pub read_stands : (old_shut new_shut : Bool) (old new : State) (s : DeskState) �
 read_stands old_shut new_shut old new s ready keeps served =
     record {
       ready = ready;
+      version = served.version;
       legal = served.legal;
       exactly = still_beside old new keeps s.them (tables s.state) served.exactly;
     }
@@ -94,8 +95,15 @@ module _ {A : Type 0} where
       → IsServed old_shut old s → Serves (IsServed new_shut new) (IsLeft new_shut new) s (next_of s request) IsRight
       IsOfCall (club_fault found)
   apply_answers old_shut new_shut old new s request IsRight (Ok a) keeps within ready ends named right steps left
-      served =
-      (right, record { ready = ready; legal = keeps s.state request within served.legal; exactly = steps })
+      served = (
+        right,
+        record {
+          ready = ready;
+          version = served.version;
+          legal = keeps s.state request within served.legal;
+          exactly = steps;
+        },
+      )
   apply_answers old_shut new_shut old new s request IsRight (Err fault) keeps within ready ends named right steps left
       served =
       (told_of_call fault (named served.ready), shut_left new_shut new s (next_of s request) ends left)

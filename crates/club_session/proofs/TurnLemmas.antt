@@ -9,14 +9,14 @@ use Rattle.store_tables.specs.Over.{Neighbours}
 use Rattle.store_tables.specs.declared.names.Version.{Version}
 use Rattle.store_tables.specs.declared.names.Version.TheVariants.{Current}
 use Rattle.store_tables.specs.Reading.{OnlyReads}
-use Rattle.store_tables.proofs.Proved.{leaves_beside}
+use Rattle.store_tables.proofs.Proved.{leaves_in_version}
 use Rattle.club_requests.specs.Limits.{last_moment}
 use Rattle.club_core.specs.Answer.{command_of}
 use Rattle.club_core.specs.State.{Request}
 use Rattle.club_rows.specs.Club.{tables}
 use Rattle.store.specs.Histories.{HistoryStep, IsReachable, IsHistory, cut_session}
 use Rattle.club_changes.specs.Steps.{KeepsClub, club_next}
-use Rattle.store.proofs.Proved.{taken_session, one_leads, one_cut}
+use Rattle.store.proofs.Proved.{holds_after, leaves_after, taken_session, one_leads, one_cut}
 use Rattle.club_session.specs.Served.{DeskState, beside_them, next_of, served}
 use Rattle.club_session.specs.ServedStates.{IsServed, IsLeft, MayLeave}
 use Rattle.club_session.specs.Turns.{IsTurn, IsOrder, IsTurnOf, AreTurns, IsWhole, AreWhole}
@@ -73,7 +73,7 @@ stands_led from them sessions now on =
             legal = on.stands.legal;
             leads = on.stands.leads;
             leaves =
-                leaves_beside them (tables on.stands.after) now on.stands.exactly db may;
+                leaves_in_version Current them (tables on.stands.after) now on.stands.exactly db may;
           };
     }
 
@@ -93,7 +93,7 @@ reads_led from version them sessions old new reads clean led = record {
 module _ (keeps : KeepsClub) (from : Version) (them : Neighbours) (sessions : List HistoryStep) (old : State)
     (on : IsHistoryOn from Current them sessions old) where
   abbrev before : DeskState
-  before = beside_them them on.stands.after
+  before = beside_them on.stands.exactly.before on.stands.after
 
   stays : (shut : Bool) (now : State) → IsServed shut now before → IsHistoryOn from Current them sessions now
   stays shut now is =
@@ -105,8 +105,7 @@ module _ (keeps : KeepsClub) (from : Version) (them : Neighbours) (sessions : Li
           after = on.stands.after;
           legal = is.legal;
           leads = on.stands.leads;
-          exactly =
-              is.exactly;
+          exactly = holds_after on.stands.exactly is.exactly;
         };
       }
 
@@ -123,7 +122,7 @@ module _ (keeps : KeepsClub) (from : Version) (them : Neighbours) (sessions : Li
           after = club_next on.stands.after request;
           legal = is.legal;
           leads = one_leads from on.stands.after (sessions ++ on.turns) request on.stands.leads;
-          exactly = is.exactly;
+          exactly = holds_after on.stands.exactly is.exactly;
         });
       }
 
@@ -187,7 +186,7 @@ module _ (keeps : KeepsClub) (from : Version) (them : Neighbours) (sessions : Li
           after = on.stands.after;
           legal = on.stands.legal;
           leads = on.stands.leads;
-          leaves = elim (left db may) [ inl it ↦ it | inr it ↦ it ];
+          leaves = leaves_after on.stands.exactly (elim (left db may) [ inl it ↦ it | inr it ↦ it ]);
         };
       }
 
@@ -201,8 +200,8 @@ module _ (keeps : KeepsClub) (from : Version) (them : Neighbours) (sessions : Li
         led = λ db may.
             let P : List HistoryStep → Type 0 = λ xs. IsReachable from Current them xs db in
             subst P (append_assoc sessions on.turns (one ∷ []))
-            (one_cut from them on.stands.after (sessions ++ on.turns) request db on.stands.leads
-            on.stands.legal (keeps on.stands.after request (asked_within request turn) on.stands.legal) (left db may));
+            (one_cut request db on.stands
+            (keeps on.stands.after request (asked_within request turn) on.stands.legal) (left db may));
       }
 
   next_led : (now : State) (t : DeskState) → (t ≡ before)
@@ -236,13 +235,18 @@ Acted shut now next s = IsNextServed served (IsServed shut now) (IsLeft shut now
 
 module _ (keeps : KeepsClub) (from : Version) (them : Neighbours) (sessions : List HistoryStep) (old_shut : Bool)
     (old : State) (ready : old_shut ≡ false) (on : IsHistoryOn from Current them sessions old) where
-  abbrev served_before : IsServed old_shut old (beside_them them on.stands.after)
-  served_before = record { ready = ready; legal = on.stands.legal; exactly = on.stands.exactly }
+  abbrev served_before : IsServed old_shut old (beside_them on.stands.exactly.before on.stands.after)
+  served_before = record {
+    ready = ready;
+    version = on.stands.exactly.is;
+    legal = on.stands.legal;
+    exactly = on.stands.exactly.holds;
+  }
 
   pub turn_stands : (shut : Bool) (now : State) (next : Option Served) → shut ≡ false
       → ((s : DeskState) → IsServed old_shut old s → Acted shut now next s) → IsHistoryOn from Current them sessions now
   turn_stands shut now next is_open acts =
-      let before = beside_them them on.stands.after in
+      let before = beside_them on.stands.exactly.before on.stands.after in
       let (moment, within, done) =
       was_served served (IsServed shut now) (IsLeft shut now) before next (acts before served_before) in
       elim done [
@@ -253,7 +257,7 @@ module _ (keeps : KeepsClub) (from : Version) (them : Neighbours) (sessions : Li
   pub turn_led : (shut : Bool) (now : State) (next : Option Served)
       → ((s : DeskState) → IsServed old_shut old s → Acted shut now next s) → IsReachableOn from Current them sessions now
   turn_led shut now next acts =
-      let before = beside_them them on.stands.after in
+      let before = beside_them on.stands.exactly.before on.stands.after in
       let (moment, within, done) =
       was_served served (IsServed shut now) (IsLeft shut now) before next (acts before served_before) in
       elim done [

@@ -1,8 +1,9 @@
 -- What a serving session served, and the states that it leaves.
-use Rattle.std.specs.Prelude.{List}
+use Rattle.std.specs.Prelude.{◌≡◌, List}
 use Rattle.sqlite.specs.Tree.{Trees}
 use Rattle.sqlite_wal.specs.Recovery.{Image}
 use Rattle.store_tables.specs.Over.{Neighbours}
+use Rattle.store_tables.specs.declared.names.Version.TheVariants.{Current}
 use Rattle.club_rows.specs.Club.{ClubState}
 use Rattle.store_files.specs.Finds.{IsFoundIn}
 use Rattle.server.specs.Acknowledged.{LeadTo}
@@ -13,6 +14,7 @@ use Rattle.club_session.specs.ServedStates.{IsLeftBy}
 -- The database holds the tables of a state to which these items lead from `s`, beside the same foreign tables.
 pub record IsLedTo (s : ClubState) (items : List Served) (found : Trees) : Type 0 where
   pub them : Neighbours
+  pub version : them.version ≡ Current
   pub after : DeskState
   pub leads : LeadTo served (beside_them them s) items after
   pub leaves : IsLeftBy found after
@@ -24,6 +26,7 @@ AreLedTo s items files = (found : Trees) → IsFoundIn files found → ∥ IsLed
 -- the same of whatever an opening finds in the files that a crash may leave
 pub record AreSettled (s : ClubState) (items : List Served) (MayLeave : Image → Type 0) : Type 0 where
   pub them : Neighbours
+  pub version : them.version ≡ Current
   pub after : DeskState
   pub leads : LeadTo served (beside_them them s) items after
   pub leaves : (left : Image) → MayLeave left → (found : Trees) → IsFoundIn left found → ∥ IsLeftBy found after ∥₁

@@ -34,6 +34,7 @@ pub record AreFilesOf (s : ClubState) (files : Image) : Type 0 where
 
 -- The same beside these foreign tables.
 pub record AreFilesBeside (them : Neighbours) (s : ClubState) (files : Image) : Type 0 where
+  pub version : them.version ≡ Current
   pub legal : IsClub s
   pub shape : is_of_club Current them.schema ≡ true
   pub finds : (found : Trees) → IsFoundIn files found → LeavesBeside them (tables s) found

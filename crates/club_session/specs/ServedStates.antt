@@ -4,6 +4,7 @@ use Rattle.std.proofs.Common.{inl, inr}
 use Rattle.sqlite.specs.Tree.{Trees}
 use Rattle.sqlite.specs.State.{State}
 use Rattle.store_tables.specs.Over.{HoldsClubAmong, LeavesBeside}
+use Rattle.store_tables.specs.declared.names.Version.TheVariants.{Current}
 use Rattle.store_tables.proofs.Proved.{leaves_beside}
 use Rattle.club_rows.specs.Club.{IsClub, tables}
 use Rattle.club_session.specs.Served.{DeskState}
@@ -11,6 +12,7 @@ use Rattle.club_session.specs.Served.{DeskState}
 -- No call has failed, and the tables are exactly those of this legal state beside these foreign tables.
 pub record IsServed (needs_reopening : Bool) (now : State) (s : DeskState) : Type 0 where
   pub ready : needs_reopening ≡ false
+  pub version : s.them.version ≡ Current
   pub legal : IsClub s.state
   pub exactly : HoldsClubAmong s.them (tables s.state) now
 

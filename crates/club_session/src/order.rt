@@ -13,6 +13,7 @@ ghost use Rattle.sqlite.specs.Files.{file_state, IsOpened};
 ghost use Rattle.club_core.specs.Answer.{answered, outcome_of};
 ghost use Rattle.club_rows.specs.Club.{ClubState};
 ghost use Rattle.club_changes.specs.Steps.{club_step};
+ghost use Rattle.store_tables.specs.declared.names.Version.TheVariants.{Current};
 ghost use Rattle.store_files.specs.Finds.{IsFoundIn, AreReachable, HaveNoTables, AreWithoutClub};
 ghost use Rattle.cli.specs.declared.words.Task.TheVariants.{Init};
 ghost use Rattle.club_check.specs.declared.fault.OpenFault.TheVariants.{Foreign};
@@ -174,7 +175,7 @@ pub fn execute_order<S: Start, W: Write>(
         (left : Image) → (store_state store).may_leave left →
         (found : Trees) → IsFoundIn left found → ∥ LeavesTask them s task.now moment result.0 found ∥₁) }
     ensures history { IfSome result.1 (λ store. IsClean (store_view store) →
-        (from : _) (versions : _) (them : _) (sessions : _) →
+        (from : _) (versions : _) (them : _) (sessions : _) → them.version ≡ Current →
         AreReachable from versions them sessions (image_at S.Start) →
         (left : Image) → (store_state store).may_leave left →
         AreReachable from (schemas_after task.now result.0 versions) them

@@ -98,12 +98,12 @@ pub fn serve_club<S: Alter, V: Connections>(
     ensures idle { result.1.in_transaction ≡ false }
     ensures clean { HasCleanDisk (state S.Store result.1) → HasCleanDisk (state S.Store conn) }
     ensures history { HasCleanDisk (state S.Store result.1) → Opens (state S.Store conn) → IsLive (state S.Store conn) →
-        (from version : _) (them : _) (sessions : _) →
+        (from version : _) (them : _) (sessions : _) → them.version ≡ Current →
         IsReachable from version them sessions (state S.Store conn).committed.trees →
         IsReachableOn from version them sessions (state S.Store result.1) }
     ensures stands { HasCleanDisk (state S.Store result.1) → Opens (state S.Store conn) →
         IsLive (state S.Store conn) → result.0 ≡ None →
-        (from version : _) (them : _) (sessions : _) →
+        (from version : _) (them : _) (sessions : _) → them.version ≡ Current →
         IsReachable from version them sessions (state S.Store conn).committed.trees →
         (version ≡ Current) × IsHistoryOn from Current them sessions (state S.Store result.1) }
     ensures told { HasCleanDisk (state S.Store result.1) →

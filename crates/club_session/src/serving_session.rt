@@ -52,11 +52,11 @@ pub fn serve_files<S: RepeatableStart, V: Connections>(
 )
     ensures unopened { result.1 ≡ None → IsUnopened result.0 }
     ensures history { IfSome result.1 (λ store. IsClean (store_view store) →
-        (from : _) (versions : _) (them : _) (sessions : _) →
+        (from : _) (versions : _) (them : _) (sessions : _) → them.version ≡ Current →
         AreReachable from versions them sessions (image_at S.Start) →
         (left : Image) → (store_state store).may_leave left → AreReachableOn from versions them sessions left) }
     ensures whole { IfSome result.1 (λ store. IsClean (store_view store) → result.0 ≡ Ok None →
-        (from : _) (versions : _) (them : _) (sessions : _) →
+        (from : _) (versions : _) (them : _) (sessions : _) → them.version ≡ Current →
         AreReachable from versions them sessions (image_at S.Start) →
         (left : Image) → (store_state store).may_leave left →
         AreReachableWhole from (Current ∷ []) them sessions left) }

@@ -1,6 +1,8 @@
 -- What sessions of a club lead to, counted by the requests that are accepted.
 use Rattle.store_tables.specs.Placed.{HasClubTables, HasTablesOf}
-use Rattle.store_tables.specs.Tables.{schema_after}
+use Rattle.store_tables.specs.Contents.{AreStored}
+use Rattle.store_tables.specs.Placed.{club_trees}
+use Rattle.store_tables.specs.Tables.{schema_after, schema_of}
 use Rattle.std.proofs.Common.{◌≡◌, ◌⊎◌, ℕ, zero, suc, ◌+◌, ◌≤◌, Bool, true, false, List, [], ◌∷◌, ◌++◌, map, length}
 use Rattle.std.proofs.Common.{take, Option, Some, None, IsSome, IsTrue, is_none, refl, sym, ap, subst, ◌∙◌, inl, inr}
 use Rattle.std.proofs.Common.{arith, true≢false}
@@ -20,10 +22,11 @@ use Rattle.club_laws.proofs.Proved.{folds-accepted}
 use Rattle.club_rows.specs.Club.{both_games, ClubState, IsClub, tables}
 use Rattle.store_tables.specs.Contents.{Content, IsEmpty, IsExactlyEmpty}
 use Rattle.store_tables.specs.Club.{Leaves}
-use Rattle.store_tables.specs.Over.{alone, HoldsClubAmong, IsFirstBeside, LeavesBeside, Neighbours, over}
+use Rattle.store_tables.specs.Migrations.{HoldsInVersion, LeavesInVersion}
+use Rattle.store_tables.specs.Over.{alone, HoldsClubAmong, LeavesBeside, Neighbours, over}
 use Rattle.store_tables.specs.Reading.{KeepsContent}
-use Rattle.store_tables.proofs.Proved.{club_held, leaves_beside, leaves_first, left_alone, still_beside}
-use Rattle.store_tables.proofs.Proved.{first_held, versions_apart}
+use Rattle.store_tables.proofs.Proved.{club_held, holds_itself, leaves_in_version, leaves_itself, left_alone}
+use Rattle.store_tables.proofs.Proved.{still_in_version, tables_before, versions_apart}
 use Rattle.store.specs.declared.club.run.Run.{Run}
 use Rattle.store.specs.declared.fault.StoreFault.{StoreFault}
 use Rattle.club_changes.specs.Steps.{club_step, club_next}
@@ -33,8 +36,8 @@ use Rattle.store.specs.SchemaRuns.{accepted_in, fold_in}
 use Rattle.store_sql.proofs.Proved.{opens_exactly, schema_once}
 use Rattle.store.specs.Histories.{HistoryStep, StepLeadsTo, Place, SessionReaches, HistoryLeadsTo, IsReachable, IsHistory}
 use Rattle.store.specs.Histories.{IsAfter, is_taken, opens_as, run_session, served, session_of, answered_session}
-use Rattle.store.specs.Histories.{IsExactlyAt, LeavesAt, Session, cut_session}
-use Rattle.club_rows.specs.FirstSchema.{first_tables}
+use Rattle.store.specs.Histories.{Session, cut_session}
+use Rattle.club_rows.specs.FirstSchema.{first_tables, tables_at}
 use Rattle.club_check.specs.Versions.{HoldsRows}
 use Rattle.store_tables.specs.declared.names.Version.{Version}
 use Rattle.store_tables.specs.declared.names.Version.TheVariants.{First, Current}
@@ -103,6 +106,39 @@ leads_on s rs j n a whole is by = record {
       ∙ sym (fold_same s (take (Counted s rs n) (accepted_in Current s rs))));
 }
 
+-- ---- the rows of a club before a migration
+
+-- what an opening is told of them
+pub holds_in_version : (version : Version) (them : Neighbours) (content : Content) (s : State) → them.version ≡ Current
+    → HoldsInVersion version them content s → HoldsRows version content s.now
+holds_in_version version them content s current k =
+    let club = k.holds.clear.club in
+    record {
+      schema = subst (λ v. HasTablesOf v s.now.schema) k.is
+          (subst (HasTablesOf k.before.version) (sym k.holds.exactly.now.schema)
+          (tables_before k.before them current k.migrates club));
+      sound = k.holds.exactly.now.sound;
+      tables = subst (λ v. AreStored (schema_of v) (club_trees s.now) content) k.is
+          (club_held k.before content s.now club k.holds.exactly.now);
+    }
+
+-- the same of a club of the current version
+pub holds_beside : (them : Neighbours) (content : Content) (s : State) → them.version ≡ Current
+    → HoldsClubAmong them content s → HoldsRows Current content s.now
+holds_beside them content s is k =
+    holds_in_version Current them content s is (holds_itself Current them content s is k)
+
+-- other rows beside the same foreign tables
+pub holds_after : {version : Version} {them : Neighbours} {one other : Content} {old new : State}
+    → (k : HoldsInVersion version them one old) → HoldsClubAmong k.before other new
+    → HoldsInVersion version them other new
+holds_after k holds = record { before = k.before; is = k.is; migrates = k.migrates; holds = holds }
+
+pub leaves_after : {version : Version} {them : Neighbours} {one other : Content} {old : State} {trees : Trees}
+    → (k : HoldsInVersion version them one old) → LeavesBeside k.before other trees
+    → LeavesInVersion version them other trees
+leaves_after k leaves = record { before = k.before; is = k.is; migrates = k.migrates; leaves = leaves }
+
 -- in the last version
 abbrev pub at_state : ClubState → Place
 at_state s = record { version = Current; state = s }
@@ -120,15 +156,19 @@ session_then from xs led one = leads_then _ _ _ xs _ led (refl, one)
 
 session_reached : (from : Version) (xs : List HistoryStep) {them : Neighbours} {s u : ClubState} {session : Session}
     {db : Trees} → HistoryLeadsTo (opens_as from) xs (at_state s) → SessionReaches Current s session u → IsClub u
-    → LeavesBeside them (tables u) db → IsReachable from Current them (xs ++ served session ∷ []) db
+    → LeavesInVersion Current them (tables u) db → IsReachable from Current them (xs ++ served session ∷ []) db
 session_reached from xs led one legal left =
     record { after = _; legal = legal; leads = session_then from xs led one; leaves = left }
 
 session_stood : {from : Version} {them : Neighbours} {old now : State} {xs : List HistoryStep} {session : Session}
     {u : ClubState} → (at : IsHistory from Current them xs old) → SessionReaches Current at.after session u → IsClub u
-    → HoldsClubAmong them (tables u) now → IsHistory from Current them (xs ++ served session ∷ []) now
-session_stood at one legal exactly =
-    record { after = _; legal = legal; leads = session_then _ _ at.leads one; exactly = exactly }
+    → HoldsClubAmong at.exactly.before (tables u) now → IsHistory from Current them (xs ++ served session ∷ []) now
+session_stood at one legal holds = record {
+  after = _;
+  legal = legal;
+  leads = session_then _ _ at.leads one;
+  exactly = holds_after at.exactly holds;
+}
 
 -- ---- what was answered
 
@@ -186,20 +226,22 @@ run_leads s rs run n told by =
 pub session_leads : {from : Version} {them : Neighbours} {sessions : List HistoryStep}
     {rs : List given_request.Request} (run : Run) {old : State} {db : Trees} →
     (at : IsHistory from Current them sessions old) → Told at.after rs run →
-    IsAfter them at.after rs (length run.outcomes.items) db
-    ⊎ (IsSome run.fault × IsAfter them at.after rs (length run.outcomes.items + 1) db)
+    IsAfter at.exactly.before at.after rs (length run.outcomes.items) db
+    ⊎ (IsSome run.fault × IsAfter at.exactly.before at.after rs (length run.outcomes.items + 1) db)
     → IsReachable from Current them (sessions ++ session_of rs run ∷ []) db
 session_leads run at told (inl here) =
-    session_reached _ _ at.leads (run_leads _ _ run _ told (inl refl)) here.legal here.leaves
+    session_reached _ _ at.leads (run_leads _ _ run _ told (inl refl)) here.legal
+    (leaves_after at.exactly here.leaves)
 session_leads run at told (inr (failed, later)) =
-    session_reached _ _ at.leads (run_leads _ _ run _ told (inr (failed, refl))) later.legal later.leaves
+    session_reached _ _ at.leads (run_leads _ _ run _ told (inr (failed, refl))) later.legal
+    (leaves_after at.exactly later.leaves)
 
 -- without a fault, the tables are led to with this session added
 pub session_stands : {from : Version} {them : Neighbours} {sessions : List HistoryStep}
     (rs : List given_request.Request) (run : Run) {old now : State} → (at : IsHistory from Current them sessions old)
     → Told at.after rs run → length run.outcomes.items ≡ length rs
     → IsClub (club_fold at.after (map request_of rs))
-    → HoldsClubAmong them (tables (club_fold at.after (map request_of rs))) now
+    → HoldsClubAmong at.exactly.before (tables (club_fold at.after (map request_of rs))) now
     → IsHistory from Current them (sessions ++ session_of rs run ∷ []) now
 session_stands rs run at told whole legal exactly =
     session_stood at
@@ -221,7 +263,7 @@ taken_session s r =
 pub one_stands : {from : Version} {them : Neighbours} {sessions : List HistoryStep} (r : Request)
     (o : given_outcome.Outcome) {old now : State} → (at : IsHistory from Current them sessions old)
     → outcome_of o ≡ answered (club_step at.after r) → IsClub (club_next at.after r)
-    → HoldsClubAmong them (tables (club_next at.after r)) now
+    → HoldsClubAmong at.exactly.before (tables (club_next at.after r)) now
     → IsHistory from Current them (sessions ++ answered_session r o ∷ []) now
 one_stands r o at told =
     session_stood at (leads_on at.after (r ∷ []) 1 1 _ true
@@ -236,15 +278,17 @@ one_leads from s sessions r led =
     session_then from sessions led (leads_on s (r ∷ []) 1 1 _ true (one_counted s r) (inl refl))
 
 -- a request that a fault cut off leads to the state before it or to the one after
-pub one_cut : (from : Version) (them : Neighbours) (s : ClubState) (sessions : List HistoryStep) (r : Request) (db : Trees)
-    → HistoryLeadsTo (opens_as from) sessions (at_state s)
-    → IsClub s → IsClub (club_next s r)
-    → LeavesBeside them (tables s) db ⊎ LeavesBeside them (tables (club_next s r)) db
+pub one_cut : {from : Version} {them : Neighbours} {sessions : List HistoryStep} (r : Request) (db : Trees)
+    {old : State} → (at : IsHistory from Current them sessions old) → IsClub (club_next at.after r)
+    → LeavesBeside at.exactly.before (tables at.after) db
+    ⊎ LeavesBeside at.exactly.before (tables (club_next at.after r)) db
     → IsReachable from Current them (sessions ++ cut_session r ∷ []) db
-one_cut from them s sessions r db led before after (inl kept) =
-    session_reached from sessions led (leads_on s (r ∷ []) 0 0 0 false refl (inl refl)) before kept
-one_cut from them s sessions r db led before after (inr changed) =
-    session_reached from sessions led (leads_on s (r ∷ []) 0 1 0 false refl (inr (refl, refl))) after changed
+one_cut r db at after (inl kept) =
+    session_reached _ _ at.leads (leads_on at.after (r ∷ []) 0 0 0 false refl (inl refl)) at.legal
+    (leaves_after at.exactly kept)
+one_cut r db at after (inr changed) =
+    session_reached _ _ at.leads (leads_on at.after (r ∷ []) 0 1 0 false refl (inr (refl, refl))) after
+    (leaves_after at.exactly changed)
 
 -- ---- openings
 
@@ -252,24 +296,29 @@ opening_legal : IsClub opening_state
 opening_legal = search arith
 
 -- a club that was just made, beside whatever neighbours, has a history with no session
-pub made_led : (them : Neighbours) (trees : Trees) → LeavesBeside them (tables opening_state) trees
-    → IsReachable Current Current them [] trees
-made_led them trees left = record { after = opening_state; legal = opening_legal; leads = refl; leaves = left }
+pub made_led : (them : Neighbours) (trees : Trees) → them.version ≡ Current
+    → LeavesBeside them (tables opening_state) trees → IsReachable Current Current them [] trees
+made_led them trees is left = record {
+  after = opening_state;
+  legal = opening_legal;
+  leads = refl;
+  leaves = leaves_itself Current them (tables opening_state) trees is left;
+}
 
-pub made_stands : (them : Neighbours) (now : State) → HoldsClubAmong them (tables opening_state) now
-    → IsHistory Current Current them [] now
-made_stands them now exactly =
-    record { after = opening_state; legal = opening_legal; leads = refl; exactly = exactly }
+pub made_stands : (them : Neighbours) (now : State) → them.version ≡ Current
+    → HoldsClubAmong them (tables opening_state) now → IsHistory Current Current them [] now
+made_stands them now is holds = record {
+  after = opening_state;
+  legal = opening_legal;
+  leads = refl;
+  exactly = holds_itself Current them (tables opening_state) now is holds;
+}
 
 -- so has one that stands alone
-pub opening_led : (trees : Trees) → Leaves (tables opening_state) trees → IsReachable Current Current alone [] trees
-opening_led trees left = made_led alone trees (left_alone (tables opening_state) trees left)
-
--- what a stop leaves of a place in a history
-pub left_at : (version : Version) (them : Neighbours) (after : ClubState) (now : State)
-    → IsExactlyAt version them after now → (trees : Trees) → now.may_leave trees → LeavesAt version them after trees
-left_at First them after now k trees left = leaves_first them (first_tables after) now k trees left
-left_at Current them after now k trees left = leaves_beside them (tables after) now k trees left
+pub opening_led : (trees : Trees) → Leaves (tables opening_state) trees
+    → IsReachable Current Current (alone Current) [] trees
+opening_led trees left =
+    made_led (alone Current) trees refl (left_alone Current (tables opening_state) trees left)
 
 pub stops_led : (from version : Version) (them : Neighbours) (chapters : List HistoryStep) (now : State)
     → IsHistory from version them chapters now → (trees : Trees) → now.may_leave trees
@@ -278,17 +327,17 @@ stops_led from version them chapters now at trees left = record {
   after = at.after;
   legal = at.legal;
   leads = at.leads;
-  leaves = left_at version them at.after now at.exactly trees left;
+  leaves = leaves_in_version version them (tables_at version at.after) now at.exactly trees left;
 }
 
 -- a history whose tables were taken as those of the last schema, if they are a club's, is one of the last version
 pub current_taken : (from version : Version) (them : Neighbours) (chapters : List HistoryStep) (s : State)
-    → (HasClubTables s.now.schema → HasTablesOf Current s.now.schema) → IsHistory from version them chapters s
+    → them.version ≡ Current → (HasClubTables s.now.schema → HasTablesOf Current s.now.schema) → IsHistory from version them chapters s
     → (version ≡ Current) × IsHistory from Current them chapters s
-current_taken from First them chapters s taken at =
-    let first = subst (HasTablesOf First) (sym at.exactly.exactly.now.schema) at.exactly.before.tables in
+current_taken from First them chapters s is taken at =
+    let first = (holds_in_version First them (first_tables at.after) s is at.exactly).schema in
     absurd (versions_apart s.now.schema first (taken (First, first)))
-current_taken from Current them chapters s taken at = (refl, at)
+current_taken from Current them chapters s is taken at = (refl, at)
 
 -- what keeps the tables keeps where they stand
 pub still_stands : (from : Version) (them : Neighbours) (chapters : List HistoryStep) (old new : State)
@@ -297,7 +346,7 @@ still_stands from them chapters old new kept at = record {
   after = at.after;
   legal = at.legal;
   leads = at.leads;
-  exactly = still_beside old new kept them (tables at.after) at.exactly;
+  exactly = still_in_version old new kept Current them (tables at.after) at.exactly;
 }
 
 -- what a connection finds that was just opened, where a stop leaves what was committed
@@ -308,18 +357,8 @@ module _ (s : State) (opens : Opens s) (live : IsLive s)
   opens_beside them content left = record {
     clear = left.clear;
     exactly =
-        opens_exactly them.schema (over them.schema content them.rows) s opens live settled left.leaves;
+        opens_exactly them.schema (over them content) s opens live settled left.leaves;
   }
-
-  opens_at : (version : Version) (them : Neighbours) (after : ClubState)
-      → LeavesAt version them after s.committed.trees → IsExactlyAt version them after s
-  opens_at First them after left = record {
-    schema = left.schema;
-    before = left.before;
-    exactly =
-        opens_exactly left.schema (over left.schema (first_tables after) them.rows) s opens live settled left.leaves;
-  }
-  opens_at Current them after left = opens_beside them (tables after) left
 
   pub opens_led : (from version : Version) (them : Neighbours) (chapters : List HistoryStep)
       → IsReachable from version them chapters s.committed.trees → IsHistory from version them chapters s
@@ -327,16 +366,21 @@ module _ (s : State) (opens : Opens s) (live : IsLive s)
     after = led.after;
     legal = led.legal;
     leads = led.leads;
-    exactly = opens_at version them led.after led.leaves;
+    exactly = record {
+      before = led.leaves.before;
+      is = led.leaves.is;
+      migrates = led.leaves.migrates;
+      holds = opens_beside led.leaves.before (tables_at version led.after) led.leaves.leaves;
+    };
   }
 
   -- what keeps the tables of a connection that was taken as the last schema's stands where the chapters lead
   pub opens_taken : {from version : Version} {them : Neighbours} {chapters : List HistoryStep} {now : State}
-      → IsReachable from version them chapters s.committed.trees
+      → them.version ≡ Current → IsReachable from version them chapters s.committed.trees
       → (HasClubTables s.now.schema → HasTablesOf Current s.now.schema) → KeepsContent s now
       → (version ≡ Current) × IsHistory from Current them chapters now
-  opens_taken led taken kept =
-      let (is, at) = current_taken _ _ _ _ s taken (opens_led _ _ _ _ led) in
+  opens_taken current led taken kept =
+      let (is, at) = current_taken _ _ _ _ s current taken (opens_led _ _ _ _ led) in
       (is, still_stands _ _ _ s _ kept at)
 
   -- a connection that opens on trees with no table is empty
@@ -355,23 +399,3 @@ module _ (s : State) (opens : Opens s) (live : IsLive s)
             };
         may_leave = λ db left. subst IsEmpty (sym (settled db opens.is_open left)) empty;
       }
-
--- ---- the rows of a club among those of all tables
-
--- what an opening is told of a club beside its neighbours
-pub holds_beside : (them : Neighbours) (content : Content) (s : State) → HoldsClubAmong them content s
-    → HoldsRows Current content s.now
-holds_beside them content s k = record {
-  schema = subst (HasTablesOf Current) (sym k.exactly.now.schema) (k.clear.club, tt);
-  sound = k.exactly.now.sound;
-  tables = club_held them content s.now k.clear k.exactly.now;
-}
-
--- the same of a club of schema 1
-pub holds_first : (them : Neighbours) (content : Content) (s : State) → IsFirstBeside them content s
-    → HoldsRows First content s.now
-holds_first them content s k = record {
-  schema = subst (HasTablesOf First) (sym k.exactly.now.schema) k.before.tables;
-  sound = k.exactly.now.sound;
-  tables = first_held them content s.now (record { schema = k.schema; before = k.before; holds = k.exactly.now });
-}

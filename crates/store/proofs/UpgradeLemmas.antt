@@ -12,7 +12,8 @@ use Rattle.store_tables.specs.Changes.{HaveSame}
 use Rattle.store_tables.specs.internal.Changes.{Alters}
 use Rattle.store_tables.specs.internal.Content.{put}
 use Rattle.store_tables.specs.internal.Contents.{put_each, put_in}
-use Rattle.store_tables.specs.Over.{HoldsClubAmong, LeavesBeside, Neighbours}
+use Rattle.store_tables.specs.Migrations.{HoldsInVersion, LeavesInVersion}
+use Rattle.store_tables.specs.Over.{Neighbours}
 use Rattle.store_tables.specs.Placed.{HasTablesOf}
 use Rattle.store_tables.specs.Tables.{schema_number}
 use Rattle.store_tables.specs.declared.names.Version.{Version}
@@ -27,11 +28,11 @@ use Rattle.club_changes.proofs.Proved.{◌&◌, ids_agree, ids_same, numbered_ha
 use Rattle.club_changes.specs.internal.Steps.{AreSame}
 use Rattle.club_core.specs.Events.{Event}
 use Rattle.club_rows.specs.Club.{ClubState, tables}
-use Rattle.club_rows.specs.FirstSchema.{first_tables}
+use Rattle.club_rows.specs.FirstSchema.{first_tables, tables_at}
 use Rattle.club_rows.specs.Tables.{meta_row, numbered_from, rule_row}
 use Rattle.club_check.proofs.Proved.{club_of_version}
-use Rattle.store.specs.Histories.{HistoryStep, IsHistory, IsReachableIn, LeavesAt, Place, UpgradeLeads, upgraded}
-use Rattle.store.proofs.HistoryLemmas.{at_state, holds_beside, leads_then}
+use Rattle.store.specs.Histories.{HistoryStep, IsHistory, IsReachableIn, Place, UpgradeLeads, upgraded}
+use Rattle.store.proofs.HistoryLemmas.{at_state, holds_in_version, leads_then}
 
 -- ---- the tables
 
@@ -105,11 +106,11 @@ not_newer first current = absurd (let x = sym first ∙ current in cc)
 
 -- a history by tables that were found to be those of schema 1 is one of the first version
 pub first_history : {from : Version} (version : Version) {them : Neighbours} {chapters : List HistoryStep} {s : State}
-    {found : Version} → found ≡ First → (HasTablesOf Current s.now.schema → found ≡ Current)
-    → IsHistory from version them chapters s → (version ≡ First) × IsHistory from First them chapters s
-first_history First first newer at = (refl, at)
-first_history Current {them} {s = s} first newer at =
-    absurd (not_newer first (newer (holds_beside them (tables at.after) s at.exactly).schema))
+    {found : Version} → them.version ≡ Current → found ≡ First
+    → (HasTablesOf Current s.now.schema → found ≡ Current) → IsHistory from version them chapters s → (version ≡ First) × IsHistory from First them chapters s
+first_history First current first newer at = (refl, at)
+first_history Current {them} {s = s} current first newer at =
+    absurd (not_newer first (newer (holds_in_version Current them (tables at.after) s current at.exactly).schema))
 
 none_later : (version : Version) → schema_number version ≤ schema_number Current
 none_later First = let it : 1 ≤ 2 = omega arith in it
@@ -121,7 +122,7 @@ upgrades version s = record { later = none_later version; same = refl; version =
 
 -- an upgrade that was answered leads to the last version
 pub upgraded_stands : {from version : Version} {them : Neighbours} {chapters : List HistoryStep} {old new : State}
-    → (at : IsHistory from version them chapters old) → HoldsClubAmong them (tables at.after) new
+    → (at : IsHistory from version them chapters old) → HoldsInVersion Current them (tables at.after) new
     → IsHistory from Current them (chapters ++ upgraded Current true ∷ []) new
 upgraded_stands {version = version} at exactly = record {
   after = at.after;
@@ -133,7 +134,8 @@ upgraded_stands {version = version} at exactly = record {
 -- one that was cut off leads to it, or stays where it was
 pub upgraded_cut : {from version : Version} {them : Neighbours} {chapters : List HistoryStep} {old : State}
     {db : Trees} → (at : IsHistory from version them chapters old)
-    → LeavesAt version them at.after db ⊎ LeavesBeside them (tables at.after) db
+    → LeavesInVersion version them (tables_at version at.after) db
+    ⊎ LeavesInVersion Current them (tables at.after) db
     → IsReachableIn from (version ∷ Current ∷ []) them (chapters ++ upgraded Current false ∷ []) db
 upgraded_cut {version = version} at (inl before) =
     let stays : Place = record { version = version; state = at.after } in

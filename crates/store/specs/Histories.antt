@@ -6,16 +6,17 @@ use Rattle.sqlite.specs.Tree.{Trees}
 use Rattle.sqlite.specs.State.{State}
 use Rattle.store_tables.specs.Club.{Leaves}
 use Rattle.store_tables.specs.Sql.{Has}
-use Rattle.store_tables.specs.Over.{Neighbours, alone, HoldsClubAmong, IsFirstBeside, LeavesBeside, LeavesFirst}
+use Rattle.store_tables.specs.Migrations.{HoldsInVersion, LeavesInVersion}
+use Rattle.store_tables.specs.Over.{LeavesBeside, Neighbours, alone}
 use Rattle.store_tables.specs.Tables.{schema_number}
 use Rattle.store_tables.specs.declared.names.Version.{Version}
-use Rattle.store_tables.specs.declared.names.Version.TheVariants.{First, Current}
+use Rattle.store_tables.specs.declared.names.Version.TheVariants.{Current}
 use Rattle.club_requests.specs.declared.requests.Request as given_request
 use Rattle.club_requests.specs.declared.answers.Outcome as given_outcome
 use Rattle.club_core.specs.Answer.{outcome_of, request_of}
 use Rattle.club_core.specs.State.{Request, opening_state, is_accepted}
 use Rattle.club_rows.specs.Club.{ClubState, IsClub, tables}
-use Rattle.club_rows.specs.FirstSchema.{IsClubOf, first_tables}
+use Rattle.club_rows.specs.FirstSchema.{IsClubOf, tables_at}
 use Rattle.schema_match.specs.Shapes.{is_of_club}
 use Rattle.store.specs.declared.club.run.Run.{Run}
 use Rattle.store.specs.Runs.{club_fold}
@@ -75,31 +76,21 @@ HistoryLeadsTo before (chapter ∷ chapters) after = (between : Place) × StepLe
 abbrev pub opens_as : Version → Place
 opens_as version = record { version = version; state = opening_state }
 
--- A later opening finds the tables of this state beside these foreign tables. A club of schema 1 is given as the state
--- that its upgrade will have.
-abbrev pub LeavesAt : Version → Neighbours → ClubState → Trees → Type 0
-LeavesAt First them s trees = LeavesFirst them (first_tables s) trees
-LeavesAt Current them s trees = LeavesBeside them (tables s) trees
-
--- the open connection holds exactly these tables, and so does whatever a crash leaves of it
-abbrev pub IsExactlyAt : Version → Neighbours → ClubState → State → Type 0
-IsExactlyAt First them s now = IsFirstBeside them (first_tables s) now
-IsExactlyAt Current them s now = HoldsClubAmong them (tables s) now
-
 -- The database has the tables of this state, alone or beside foreign tables, in a schema equivalent to a club's.
 pub record HasState (s : ClubState) (trees : Trees) : Type 0 where
   pub them : Neighbours
+  pub version : them.version ≡ Current
   pub leaves : LeavesBeside them (tables s) trees
   pub shape : is_of_club Current them.schema ≡ true
 
 -- From an empty club in the schema `from` the steps lead to a legal state in this schema, whose tables a later opening
--- finds in the database, beside these foreign tables.
+-- finds in the database, beside these foreign tables. `them` is the database after a migration, or this one.
 pub record IsReachable (from version : Version) (them : Neighbours) (chapters : List HistoryStep) (trees : Trees)
     : Type 0 where
   pub after : ClubState
   pub legal : IsClubOf version after
   pub leads : HistoryLeadsTo (opens_as from) chapters (record { version = version; state = after })
-  pub leaves : LeavesAt version them after trees
+  pub leaves : LeavesInVersion version them (tables_at version after) trees
 
 -- the steps lead to the tables of the database in one of these schemas
 pub record IsReachableIn (from : Version) (versions : List Version) (them : Neighbours) (chapters : List HistoryStep)
@@ -114,7 +105,7 @@ pub record IsHistory (from version : Version) (them : Neighbours) (chapters : Li
     pub after : ClubState
     pub legal : IsClubOf version after
     pub leads : HistoryLeadsTo (opens_as from) chapters (record { version = version; state = after })
-    pub exactly : IsExactlyAt version them after now
+    pub exactly : HoldsInVersion version them (tables_at version after) now
 
 -- whether the outcome is that the request was accepted
 abbrev pub is_taken : given_outcome.Outcome → Bool
@@ -150,4 +141,4 @@ pub record IsAfter (them : Neighbours) (before : ClubState) (requests : List giv
 -- the empty history of a club that was created in schema 2 leads to the tables of an empty club in schema 2
 abbrev pub BeginsAtOpening : Type 0
 BeginsAtOpening =
-    (trees : Trees) → Leaves (tables opening_state) trees → IsReachable Current Current alone [] trees
+    (trees : Trees) → Leaves (tables opening_state) trees → IsReachable Current Current (alone Current) [] trees

@@ -8,7 +8,8 @@ ghost use Rattle.sqlite_trees.specs.View.{doubt};
 ghost use Rattle.store_tables.specs.Placed.{HasClubTables, HasTables, HasTablesOf};
 ghost use Rattle.store_tables.specs.Contents.{IsExactlyEmpty, IsEmpty};
 ghost use Rattle.store_tables.specs.Club.{IsExactly, IsOpened, Leaves};
-ghost use Rattle.store_tables.specs.Over.{alone, HasRows, HoldsClubAmong, IsFirstBeside, LeavesBeside};
+ghost use Rattle.store_tables.specs.Migrations.{HoldsInVersion};
+ghost use Rattle.store_tables.specs.Over.{alone, HasRows, HoldsClubAmong, LeavesBeside};
 ghost use Rattle.store_tables.specs.Room.{IsWithoutClub, LeavesNoClub};
 ghost use Rattle.store_tables.specs.Reading.{KeepsContent, KeepsMay, OnlyReads, Reads};
 ghost use Rattle.store_tables.specs.declared.names.Version.TheVariants.{First, Current};
@@ -101,10 +102,10 @@ pub fn create<S: Alter>(_alloc: Global, conn: Connection<S>) -> Result<Club<S>, 
     ensures fault { IfErr result (λ u. HasCleanDisk (state S.Store u.conn) → IsExactlyEmpty (state S.Store conn) →
         (db : _) → (state S.Store u.conn).may_leave db → IsEmpty db ⊎ Leaves (tables opening_state) db) }
     ensures begins { IfOk result (λ club. HasCleanDisk (state S.Store club.connection) → IsExactlyEmpty
-        (state S.Store conn) → IsHistory Current Current alone [] (state S.Store club.connection)) }
+        (state S.Store conn) → IsHistory Current Current (alone Current) [] (state S.Store club.connection)) }
     ensures after_crash { IfErr result (λ u. HasCleanDisk (state S.Store u.conn) → IsExactlyEmpty (state S.Store conn) →
         (db : _) → (state S.Store u.conn).may_leave db → IsEmpty db ⊎
-        IsReachable Current Current alone [] db) }
+        IsReachable Current Current (alone Current) [] db) }
     // Beside foreign tables, which keep their rows.
     ensures behind { IfOk result (λ club. HasCleanDisk (state S.Store club.connection) → (them : _) →
         IsWithoutClub them (state S.Store conn) →
@@ -168,9 +169,10 @@ pub fn adopt<S: Alter>(alloc: Global, conn: Connection<S>) -> Result<Club<S>, Un
     ensures first_damaged { IfErr result (λ u. HasCleanDisk (state S.Store u.conn) →
         HasClubTables (state S.Store conn).now.schema → NamesFirstDamaged (state S.Store conn).now u.fault) }
     ensures older { IfOk result (λ club. HasCleanDisk (state S.Store club.connection) → (them : _) (s : _) →
-        IsFirstClub s → ¬ IsFirstBeside them (first_tables s) (state S.Store conn)) }
+        IsFirstClub s → them.version ≡ Current →
+        ¬ HoldsInVersion First them (first_tables s) (state S.Store conn)) }
     ensures first { IfErr result (λ u. HasCleanDisk (state S.Store u.conn) → (them : _) (s : _) → IsFirstClub s →
-        IsFirstBeside them (first_tables s) (state S.Store conn) →
+        them.version ≡ Current → HoldsInVersion First them (first_tables s) (state S.Store conn) →
         is_of_club First (state S.Store conn).now.schema ≡ true → (u.fault ≡ OpenFault.Schema (pos 1))
         ⊎ ((u.fault ≡ OpenFault.Store) ⊎ (u.fault ≡ OpenFault.Memory))) }
     // A legal club, alone or beside foreign tables, is accepted.
@@ -212,11 +214,11 @@ impl<S: Alter> Club<S> {
         ensures ends { OnErr result (self.new.needs_reopening ≡ true) }
         ensures possible_faults { IfErr result (λ fault. self.old.needs_reopening ≡ false → fault ≡ StoreFault.Store) }
         ensures stored { HasCleanDisk (state S.Store self.new.connection) → OnOk result ((them : _) (content : _) →
-            HoldsClubAmong them content (state S.Store self.old.connection) →
+            them.version ≡ Current → HoldsClubAmong them content (state S.Store self.old.connection) →
             HoldsClubAmong them (changed changes.now content) (state S.Store self.new.connection)) }
         ensures fault { HasCleanDisk (state S.Store self.new.connection) →
             OnErr result (self.old.needs_reopening ≡ false → (them : _) (content : _) →
-            HoldsClubAmong them content (state S.Store self.old.connection) → (db : _) →
+            them.version ≡ Current → HoldsClubAmong them content (state S.Store self.old.connection) → (db : _) →
             (state S.Store self.new.connection).may_leave db →
             LeavesBeside them content db ⊎ LeavesBeside them (changed changes.now content) db) }
     {
@@ -265,11 +267,12 @@ impl<S: Alter> Club<S> {
             IsClub s → HasRows (tables s) (state S.Store self.old.connection) →
             outcome_of outcome ≡ answered (club_step s (request who.now command.now moment))) }
         ensures step { HasCleanDisk (state S.Store self.new.connection) → OnOk result ((them : _) (s : ClubState) →
-            IsClub s → HoldsClubAmong them (tables s) (state S.Store self.old.connection) → HoldsClubAmong them
-            (tables (club_next s (request who.now command.now moment))) (state S.Store self.new.connection)) }
+            IsClub s → them.version ≡ Current → HoldsClubAmong them (tables s) (state S.Store self.old.connection) →
+            HoldsClubAmong them (tables (club_next s (request who.now command.now moment)))
+            (state S.Store self.new.connection)) }
         ensures fault { HasCleanDisk (state S.Store self.new.connection) →
             OnErr result (self.old.needs_reopening ≡ false → (them : _) (s : ClubState) → IsClub s →
-            HoldsClubAmong them (tables s) (state S.Store self.old.connection) →
+            them.version ≡ Current → HoldsClubAmong them (tables s) (state S.Store self.old.connection) →
             (db : _) → (state S.Store self.new.connection).may_leave db → LeavesBeside them (tables s) db ⊎
             LeavesBeside them (tables (club_next s (request who.now command.now moment))) db) }
         ensures stands { HasCleanDisk (state S.Store self.new.connection) → IfOk result (λ outcome.

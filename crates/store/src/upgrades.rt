@@ -8,7 +8,8 @@ ghost use Rattle.sqlite.specs.declared.types.Value.TheVariants.{Int};
 ghost use Rattle.store_tables.specs.Placed.{HasClubTables, HasTablesOf};
 ghost use Rattle.store_tables.specs.internal.Cells.{meta_cells};
 ghost use Rattle.store_tables.specs.Club.{IsExactly};
-ghost use Rattle.store_tables.specs.Over.{HoldsClubAmong, IsFirstBeside, LeavesBeside, LeavesFirst};
+ghost use Rattle.store_tables.specs.Migrations.{HoldsInVersion, LeavesInVersion};
+ghost use Rattle.store_tables.specs.Over.{HoldsClubAmong, LeavesBeside};
 ghost use Rattle.store_tables.specs.Reading.{KeepsMay, OnlyReads};
 ghost use Rattle.schema_match.specs.Shapes.{is_of_club};
 ghost use Rattle.store_tables.specs.declared.names.Version.TheVariants.{First, Current};
@@ -62,10 +63,11 @@ pub fn upgrade<S: Alter>(
     ensures known { IfErr result (λ u. doubt (state S.Store conn).is_clean ≤ doubt (state S.Store u.conn).is_clean) }
     // Beside foreign tables, too, which keep their rows.
     ensures done { IfOk result (λ done. HasCleanDisk (state S.Store done.0) → (them : _) (s : ClubState) →
-        IsFirstClub s → IsFirstBeside them (first_tables s) (state S.Store conn) →
+        IsFirstClub s → them.version ≡ Current →
+        HoldsInVersion First them (first_tables s) (state S.Store conn) →
         (done.1 ≡ Upgrade.Done) × HoldsClubAmong them (tables s) (state S.Store done.0)) }
     ensures already { IfOk result (λ done. HasCleanDisk (state S.Store done.0) → (them : _) (s : ClubState) →
-        IsClub s → HoldsClubAmong them (tables s) (state S.Store conn) →
+        IsClub s → them.version ≡ Current → HoldsClubAmong them (tables s) (state S.Store conn) →
         (done.1 ≡ Upgrade.Already) × HoldsClubAmong them (tables s) (state S.Store done.0)) }
     ensures unchanged { IfOk result (λ done. HasCleanDisk (state S.Store done.0) → done.1 ≡ Upgrade.Already →
         KeepsMay (state S.Store conn) (state S.Store done.0)) }
@@ -74,9 +76,10 @@ pub fn upgrade<S: Alter>(
     ensures found { IfOk result (λ done. HasCleanDisk (state S.Store done.0) → (version : _) → IsOpenedAt version
         (state S.Store conn) → (s : _) × IsClubOf version s × IsExactly (tables s) (state S.Store done.0)) }
     ensures fault { IfErr result (λ u. HasCleanDisk (state S.Store u.conn) → (them : _) (s : ClubState) →
-        IsFirstClub s → IsFirstBeside them (first_tables s) (state S.Store conn) →
+        IsFirstClub s → them.version ≡ Current →
+        HoldsInVersion First them (first_tables s) (state S.Store conn) →
         (db : _) → (state S.Store u.conn).may_leave db →
-        LeavesFirst them (first_tables s) db ⊎ LeavesBeside them (tables s) db) }
+        LeavesInVersion First them (first_tables s) db ⊎ LeavesBeside them (tables s) db) }
     ensures kept { IfErr result (λ u. u.fault ≢ OpenFault.Store →
         OnlyReads (state S.Store conn) (state S.Store u.conn)) }
     ensures stays { IfErr result (λ u. HasCleanDisk (state S.Store u.conn) →
@@ -92,11 +95,13 @@ pub fn upgrade<S: Alter>(
         HasClubTables (state S.Store conn).now.schema → NamesFirstDamaged (state S.Store conn).now u.fault) }
     ensures history { IfOk result (λ done. HasCleanDisk (state S.Store done.0) → Opens (state S.Store conn) →
         IsLive (state S.Store conn) → (from version : _) (them : _) (chapters : _) →
+        them.version ≡ Current →
         IsReachable from version them chapters (state S.Store conn).committed.trees →
         (version ≡ version_found done.1) ×
         IsHistory from Current them (chapters ++ upgraded Current true ∷ []) (state S.Store done.0)) }
     ensures after_crash { IfErr result (λ u. HasCleanDisk (state S.Store u.conn) → Opens (state S.Store conn) →
         IsLive (state S.Store conn) → (from version : _) (them : _) (chapters : _) →
+        them.version ≡ Current →
         IsReachable from version them chapters (state S.Store conn).committed.trees →
         (db : _) → (state S.Store u.conn).may_leave db →
         IsReachableIn from (version ∷ Current ∷ []) them (chapters ++ upgraded Current false ∷ []) db) }

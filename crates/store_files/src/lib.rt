@@ -17,6 +17,7 @@ ghost use Rattle.sqlite.specs.Files.{file_state, IsNothing};
 ghost use Rattle.sqlite_wal.specs.Recovery.{Image};
 ghost use Rattle.sqlite_store.specs.FileStore.{state as store_state, view as store_view};
 ghost use Rattle.sqlite_trees.specs.View.{IsClean, doubt};
+ghost use Rattle.store_tables.specs.declared.names.Version.TheVariants.{Current};
 ghost use Rattle.club_core.specs.Answer.{answered, outcome_of, request_of};
 ghost use Rattle.club_rows.specs.Club.{ClubState, IsClub};
 ghost use Rattle.store.specs.Runs.{club_outcomes};
@@ -99,7 +100,7 @@ pub fn serve_session<D: Disk + Drop>(
         (map request_of (take (length lived.0.outcomes.items) requests.now)))) }
     ensures history { IfOk result (λ lived. IsClean (store_view lived.1) → Opens (file_state conn) →
         IsLive (file_state conn) →
-        (from version : _) (them : _) (sessions : _) →
+        (from version : _) (them : _) (sessions : _) → them.version ≡ Current →
         ∥ IsReachable from version them sessions (file_state conn).committed.trees ∥₁ →
         (left : _) → (store_state lived.1).may_leave left → (found : _) → Finds left found →
         ∥ IsReachable from version them (sessions ++ session_of requests.now lived.0 ∷ []) found ∥₁) }

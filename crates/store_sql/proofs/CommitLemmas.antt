@@ -4,9 +4,8 @@ use Rattle.sqlite.specs.Held.{Held, state}
 use Rattle.sqlite.specs.State.{Shows}
 use Rattle.store_tables.specs.Club.{Leaves}
 use Rattle.store_tables.specs.Contents.{Content, Holds, IsExactlyEmpty}
-use Rattle.store_tables.specs.Over.{HoldsClubAmong, IsFirstBeside, LeavesBeside, Neighbours}
-use Rattle.store_tables.specs.internal.Over.{HoldsBeside, HoldsFirst}
-use Rattle.store_tables.specs.Over.{alone, over}
+use Rattle.store_tables.specs.Over.{HoldsClubAmong, LeavesBeside, Neighbours, alone, over}
+use Rattle.store_tables.specs.internal.Over.{HoldsBeside}
 use Rattle.store_tables.specs.Placed.{TakesClub}
 use Rattle.store_tables.specs.Room.{HasRoom, IsWithoutClub}
 use Rattle.store_tables.specs.Sql.{Database, HasCleanDisk, Schema, State, Survives, Trees}
@@ -30,28 +29,24 @@ commit_survives g old last end new P same inside commit leads =
     (survives_begin g old (state g last) _ inside) commit)
 
 -- A club among its neighbours that a transaction came to is what a stop leaves after the commit.
-pub left_beside : (them : Neighbours) (content : Content) (db : Database) → TakesClub Current them.schema
+pub left_beside : (them : Neighbours) (content : Content) (db : Database) → TakesClub them.version them.schema
     → HoldsBeside them content db → LeavesBeside them content db.trees
 left_beside them content db clear holds = record {
   clear = clear;
-  leaves = leaves_of them.schema db (over them.schema content them.rows) holds;
+  leaves = leaves_of them.schema db (over them content) holds;
 }
 
 pub commits_beside : {S : Type 0} (g : Ghosts S) (them : Neighbours) (content : Content) (last end new : Held S)
-    → end ≡ new → TakesClub Current them.schema → HoldsBeside them content (state g last).now
+    → end ≡ new → TakesClub them.version them.schema → HoldsBeside them content (state g last).now
     → Shows (state g last) (state g end) (state g last).now (state g last).now false
     → ((db : Trees) → IsTrue (state g end).is_open → (state g end).may_leave db → db ≡ (state g end).committed.trees)
     → HoldsClubAmong them content (state g new)
 commits_beside g them content last end new same clear holds shown settled =
     subst (λ h. HoldsClubAmong them content (state g h)) same (record {
       clear = clear;
-      exactly = commits them.schema (over them.schema content them.rows) (state g last) (state g end) holds shown
+      exactly = commits them.schema (over them content) (state g last) (state g end) holds shown
           settled;
     })
-
-pub held_first : (them : Neighbours) (content : Content) (s : State) → IsFirstBeside them content s
-    → HoldsFirst them content s.now
-held_first them content s k = record { schema = k.schema; before = k.before; holds = k.exactly.now }
 
 -- where there is room for a club, the database comes to hold this content of one
 abbrev pub Fits : Content → Database → Database → Type 0
@@ -60,11 +55,12 @@ Fits content old new =
     → HoldsBeside them content new
 
 module _ (content : Content) (old : State) (new : Database) (fits : Fits content old.now new) where
-  pub fits_alone : IsExactlyEmpty old → HoldsBeside alone content new
-  fits_alone k = fits (schema_after 0) alone alone_room (holds_nothing (schema_after 0) _ k.now)
+  pub fits_alone : IsExactlyEmpty old → HoldsBeside (alone Current) content new
+  fits_alone k = fits (schema_after 0) (alone Current) alone_room (holds_nothing (schema_after 0) _ k.now)
 
   pub left_alone : IsExactlyEmpty old → Leaves content new.trees
-  left_alone k = alone_leaves content new.trees (left_beside alone content new alone_takes (fits_alone k))
+  left_alone k = alone_leaves Current content new.trees
+      (left_beside (alone Current) content new (alone_takes Current) (fits_alone k))
 
   pub left_behind : (them : Neighbours) → IsWithoutClub them old → LeavesBeside them content new.trees
   left_behind them k =

@@ -34,6 +34,7 @@ use Rattle.store_tables.specs.internal.Contents.{AreThose}
 use Rattle.store_tables.specs.internal.Queries.{AreShownBy, Finds, IsSelect, by_others}
 use Rattle.store_tables.specs.Reading.{KeepsContent, KeepsMay, Reads}
 use Rattle.store_tables.specs.internal.Reading.{by_columns, by_first_falling, ReturnsRows, TellsIds, IsNoInput}
+use Rattle.store_tables.specs.declared.names.Version.TheVariants.{Current}
 use Rattle.store_tables.proofs.Proved.{select_unchanged, only_reads, reads_by, unchanged_exactly, tells, tells_ids}
 use Rattle.store_tables.proofs.Proved.{has_index, no_missing, only_left, row_of_whole, select_fails}
 use Rattle.store_tables.proofs.Proved.{finds, no_input, ids_of, each_shown, one_list, sorted_rows, has_map}
@@ -196,7 +197,7 @@ pub moved_to : {table : Table} (which : of_club.Table) → table ≡ standing wh
 moved_to which is tree = ap (λ (t : Table). record t { tree = tree }) is ∙ same_but_tree which tree
 
 pub standing_alone : (table : of_club.Table) → HasTableAt club_schema table
-standing_alone table = all_has (HasTableAt club_schema) in_order table alone_takes.club (in_all table)
+standing_alone table = all_has (HasTableAt club_schema) in_order table (alone_takes Current).club (in_all table)
 
 -- a table of the club has the rows of the club
 stored_here : (table : of_club.Table) (content : Content) (s : State) → HasRows content s

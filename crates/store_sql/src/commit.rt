@@ -101,13 +101,15 @@ pub fn commit_changes<S: Alter>(conn: &mut Connection<S>, changes: &Changes) -> 
     requires { conn.old.in_transaction ≡ false }
     ensures idle { conn.new.in_transaction ≡ false }
     ensures stored { HasCleanDisk (state S.Store conn.new) → OnOk result ((them : _) (content : _) →
-        HoldsClubAmong them content (state S.Store conn.old) →
+        them.version ≡ Current → HoldsClubAmong them content (state S.Store conn.old) →
         HoldsClubAmong them (changed changes.now content) (state S.Store conn.new)) }
     ensures fault { HasCleanDisk (state S.Store conn.new) → OnErr result ((them : _) (content : _) →
-        HoldsClubAmong them content (state S.Store conn.old) → (db : _) → (state S.Store conn.new).may_leave db →
+        them.version ≡ Current → HoldsClubAmong them content (state S.Store conn.old) → (db : _) →
+        (state S.Store conn.new).may_leave db →
         LeavesBeside them content db ⊎ LeavesBeside them (changed changes.now content) db) }
     ensures survives { Survives (state S.Store conn.old) (state S.Store conn.new) (λ db. (them : _) →
-        TakesClub Current them.schema → (content : _) → HoldsBeside them content (state S.Store conn.old).now →
+        them.version ≡ Current → TakesClub them.version them.schema → (content : _) →
+        HoldsBeside them content (state S.Store conn.old).now →
         LeavesBeside them (changed changes.now content) db) }
 {
     let mut tx = conn.transaction();

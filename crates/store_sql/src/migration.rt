@@ -7,11 +7,13 @@ ghost use Rattle.sqlite_catalog.specs.Change.{is_used};
 ghost use Rattle.sqlite_trees.specs.View.{doubt};
 ghost use Rattle.store_tables.specs.internal.Changed.{widened};
 ghost use Rattle.store_tables.specs.Names.{table_name, tree_of};
-ghost use Rattle.store_tables.specs.Over.{HoldsClubAmong, IsFirstBeside, LeavesBeside, LeavesFirst};
-ghost use Rattle.store_tables.specs.internal.Over.{HoldsFirst};
-ghost use Rattle.store_tables.specs.Placed.{HasTableAt};
+ghost use Rattle.store_tables.specs.Migrations.{HoldsInVersion, LeavesInVersion, MigratesTo};
+ghost use Rattle.store_tables.specs.Over.{HoldsClubAmong, LeavesBeside};
+ghost use Rattle.store_tables.specs.internal.Over.{HoldsBeside};
+ghost use Rattle.store_tables.specs.Placed.{HasTableAt, HasTables};
 ghost use Rattle.store_tables.specs.Reading.{Reads};
 ghost use Rattle.store_tables.specs.declared.names.Table.TheVariants.{EventRules};
+ghost use Rattle.store_tables.specs.declared.names.Version.TheVariants.{First, Current};
 ghost use Rattle.store_sql.specs.internal.Widened.{WidensTo};
 
 use crate::fault::{ReadFault, is_refused};
@@ -57,15 +59,19 @@ pub fn migrate<S: Alter>(
     ensures idle { conn.new.in_transaction ≡ false }
     ensures clean { doubt (state S.Store conn.old).is_clean ≤ doubt (state S.Store conn.new).is_clean }
     ensures stored { HasCleanDisk (state S.Store conn.new) → OnOk result ((them : _) (content : _) →
-        content (tree_of EventRules) ≡ [] → IsFirstBeside them content (state S.Store conn.old) →
+        content (tree_of EventRules) ≡ [] → them.version ≡ Current →
+        HoldsInVersion First them content (state S.Store conn.old) →
         HoldsClubAmong them (widened rules.now meta.now content) (state S.Store conn.new)) }
     ensures fault { HasCleanDisk (state S.Store conn.new) → OnErr result ((them : _) (content : _) →
-        content (tree_of EventRules) ≡ [] → IsFirstBeside them content (state S.Store conn.old) → (db : _) →
+        content (tree_of EventRules) ≡ [] → them.version ≡ Current →
+        HoldsInVersion First them content (state S.Store conn.old) → (db : _) →
         (state S.Store conn.new).may_leave db →
-        LeavesFirst them content db ⊎ LeavesBeside them (widened rules.now meta.now content) db) }
-    ensures survives { Survives (state S.Store conn.old) (state S.Store conn.new) (λ db. (them : _)
-        (content : _) → content (tree_of EventRules) ≡ [] → HoldsFirst them content (state S.Store conn.old).now →
-        LeavesBeside them (widened rules.now meta.now content) db) }
+        LeavesInVersion First them content db ⊎ LeavesBeside them (widened rules.now meta.now content) db) }
+    ensures survives { Survives (state S.Store conn.old) (state S.Store conn.new) (λ db. (before : _) →
+        before.version ≡ First → (after : _) → after.version ≡ Current → MigratesTo before after →
+        HasTables First before.schema → (content : _) → content (tree_of EventRules) ≡ [] →
+        HoldsBeside before content (state S.Store conn.old).now →
+        LeavesBeside after (widened rules.now meta.now content) db) }
 {
     let mut tx = conn.transaction();
     migrate_inside(&mut tx, rules, meta)?;

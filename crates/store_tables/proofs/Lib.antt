@@ -6,6 +6,7 @@ pub mod IdLemmas
 pub mod KeyLemmas
 pub mod MakeLemmas
 pub mod Meanings
+pub mod MigrationLemmas
 pub mod OrderLemmas
 pub mod OverLemmas
 pub mod PlacedCreated

@@ -1,5 +1,6 @@
 -- A club among its neighbours: what of it is the club's, what stays, and a club alone.
 use Rattle.std.proofs.lemmas.Bool.{and_parts, not-true}
+use Rattle.std.proofs.lemmas.List.{take-append-drop, take-map}
 use Rattle.std.proofs.Common.{true, Bool, not, ◌&&◌, ◌≡◌, ℕ, false, List, [], ◌∷◌, Option, Some, None, refl, ap, sym}
 use Rattle.std.proofs.Common.{subst, ◌∙◌, inl, inr, map, arith, nat_lt, ◌^◌, ◌≤◌, zero, suc, take}
 use Rattle.std.proofs.lemmas.Option.{same_Some}
@@ -7,7 +8,7 @@ use Rattle.std.specs.List.{AllByRecursion}
 use Rattle.store_tables.specs.Sql.{Database, Has, Row, State, Schema, Table, Trees}
 use Rattle.sqlite_catalog.specs.Change.{created, is_used, next_tree}
 use Rattle.sqlite.specs.Does.{lacks_sequence}
-use Rattle.sqlite_rules.proofs.ListLemmas.{all_has, has_got}
+use Rattle.sqlite_rules.proofs.ListLemmas.{all_from, all_has, has_got}
 use Rattle.sqlite_trees.proofs.ListLemmas.{all-map, all_both, all_from_map, all_of, all_weaker}
 use Rattle.sqlite_schema.specs.Names.{same_name}
 use Rattle.store_tables.specs.Changes.{HaveSame}
@@ -15,31 +16,27 @@ use Rattle.store_tables.specs.internal.Changes.{AreSame}
 use Rattle.store_tables.specs.Content.{AreApart, Keeps, cells}
 use Rattle.store_tables.specs.Contents as of_schema
 use Rattle.store_tables.specs.Contents.{AreStored, Content, Stores, nothing}
-use Rattle.store_tables.specs.Club.{IsExactly, Leaves}
 use Rattle.store_tables.specs.Names.{in_order, table_count, table_name, tree_of}
-use Rattle.store_tables.specs.Over.{HasRows, HoldsClubAmong, IsFirstBeside, IsUpgraded}
-use Rattle.store_tables.specs.internal.Over.{HoldsBeside, HoldsFirst}
-use Rattle.store_tables.specs.Over.{LeavesBeside, LeavesFirst, Neighbours, alone, over}
-use Rattle.store_tables.specs.Placed.{HasTables, HasTablesOf, HasTableAt, TakesClub, by_club, club_trees, tables_of}
-use Rattle.store_tables.specs.Placed.{tree_in}
+use Rattle.store_tables.specs.Over.{HasRows, HoldsClubAmong, LeavesBeside, Neighbours, alone, over}
+use Rattle.store_tables.specs.internal.Over.{HoldsBeside}
+use Rattle.store_tables.specs.Placed.{HasTables, HasTablesOf, HasTableAt, TakesClub, by_club, club_trees, later_tables}
+use Rattle.store_tables.specs.Placed.{tables_of, tree_in}
 use Rattle.store_tables.specs.Reading.{KeepsContent}
-use Rattle.store_tables.specs.Room.{AreUnused, HasRoom, IsWithoutClub, LeavesNoClub}
+use Rattle.store_tables.specs.Room.{AreUnused, HasRoom, IsWithoutClub, LeavesNoClub, made_in}
 use Rattle.store_tables.specs.Tables.{club_schema, made_as, schema_after, schema_of, standing}
-use Rattle.store_tables.specs.internal.Tables.{first_schema}
 use Rattle.store_tables.specs.declared.names.Table as of_club
 use Rattle.store_tables.specs.declared.names.Table.TheVariants.{EventRules, Meta}
 use Rattle.store_tables.specs.declared.names.Version.{Version}
 use Rattle.store_tables.specs.declared.names.Version.TheVariants.{First, Current}
 use Rattle.store_tables.proofs.AlterLemmas.{same_by}
-use Rattle.store_tables.proofs.SameLemmas.{exactly_on, exactly_same, leaves_on, leaves_same}
+use Rattle.store_tables.proofs.SameLemmas.{exactly_on, leaves_on}
 use Rattle.store_tables.proofs.PlacedCreates.{is_free}
 use Rattle.store_tables.proofs.PlacedMakes.{unused_parts}
 use Rattle.store_tables.proofs.PlacedSteps.{LeavesRoom}
-use Rattle.store_tables.proofs.PlacedOver.{all_stand, stand_or_not}
+use Rattle.store_tables.proofs.PlacedOver.{at_version}
 use Rattle.store_tables.proofs.PlacedSelects.{tree_is}
-use Rattle.store_tables.proofs.PlacedTaken.{Taken, all_taken, made_takes_club}
-use Rattle.store_tables.proofs.PlacedTrees.{StandsOrNot, by_club_at, in_all, one_or_none, over_at, over_club, over_past}
-use Rattle.store_tables.proofs.PlacedTrees.{tree_found}
+use Rattle.store_tables.proofs.PlacedTaken.{made_takes_club}
+use Rattle.store_tables.proofs.PlacedTrees.{by_club_at, in_all, one_or_none, over_at, over_club, over_past, tree_found}
 
 -- ---- contents that have the same rows of a club
 
@@ -55,35 +52,35 @@ alike_at one other same table =
     (all_has (λ t. P (standing t)) in_order table (all_from_map P standing in_order same) (in_all table))
 
 module _ (one other : Content) (same : AreSame club_schema one other) where
-  over_same : (schema : Schema) (rows : Content) → AllByRecursion (StandsOrNot schema) in_order → (n : ℕ)
-      → HaveSame (over schema one rows n) (over schema other rows n)
-  over_same schema rows all n = elim (one_or_none schema n in_order all) [
+  over_same : (them : Neighbours) → HasTables them.version them.schema → (n : ℕ)
+      → HaveSame (over them one n) (over them other n)
+  over_same them club n = elim (one_or_none them.schema n (tables_of them.version) club) [
     | inl found ↦
         let (table, s, is, has) = found in
-        let first = ap (over schema one rows) is ∙ over_at schema all one rows table s in
-        let last = ap (over schema other rows) is ∙ over_at schema all other rows table s in
-        subst (λ l. HaveSame l (over schema other rows n)) (sym first)
+        let first = ap (over them one) is ∙ over_at them club one table has s in
+        let last = ap (over them other) is ∙ over_at them club other table has s in
+        subst (λ l. HaveSame l (over them other n)) (sym first)
         (subst (λ l. HaveSame (one (tree_of table)) l) (sym last) (alike_at one other same table))
-    | inr past ↦ same_by _ _ (over_past schema one rows n past ∙ sym (over_past schema other rows n past))
+    | inr past ↦ same_by _ _ (over_past them one n past ∙ sym (over_past them other n past))
   ]
 
-  all_same : (them : Neighbours) → TakesClub Current them.schema
-      → AreSame them.schema (over them.schema one them.rows) (over them.schema other them.rows)
+  all_same : (them : Neighbours) → TakesClub them.version them.schema
+      → AreSame them.schema (over them one) (over them other)
   all_same them takes =
-      all_of (λ (t : Table). HaveSame (over them.schema one them.rows t.tree) (over them.schema other them.rows t.tree))
-      (λ t. over_same them.schema them.rows (all_stand them.schema takes.club) t.tree) them.schema.tables
+      all_of (λ (t : Table). HaveSame (over them one t.tree) (over them other t.tree))
+      (λ t. over_same them takes.club t.tree) them.schema.tables
 
   pub beside_same : (them : Neighbours) (s : State) → HoldsClubAmong them one s → HoldsClubAmong them other s
   beside_same them s k = record {
     clear = k.clear;
-    exactly = exactly_on them.schema (over them.schema one them.rows) (over them.schema other them.rows) s
+    exactly = exactly_on them.schema (over them one) (over them other) s
         (all_same them k.clear) k.exactly;
   }
 
   pub left_same : (them : Neighbours) (db : Trees) → LeavesBeside them one db → LeavesBeside them other db
   left_same them db left = record {
     clear = left.clear;
-    leaves = leaves_on them.schema (over them.schema one them.rows) (over them.schema other them.rows) db
+    leaves = leaves_on them.schema (over them one) (over them other) db
         (all_same them left.clear) left.leaves;
   }
 
@@ -93,11 +90,6 @@ pub leaves_beside : (them : Neighbours) (content : Content) (s : State) → Hold
     → s.may_leave db → LeavesBeside them content db
 leaves_beside them content s k db h = record { clear = k.clear; leaves = k.exactly.may_leave db h }
 
-pub leaves_first : (them : Neighbours) (content : Content) (s : State) → IsFirstBeside them content s → (db : Trees)
-    → s.may_leave db → LeavesFirst them content db
-leaves_first them content s k db h =
-    record { schema = k.schema; before = k.before; leaves = k.exactly.may_leave db h }
-
 pub leaves_no_club : (them : Neighbours) (s : State) → IsWithoutClub them s → (db : Trees) → s.may_leave db
     → LeavesNoClub them db
 leaves_no_club them s k db h = record { schema = k.schema; before = k.before; leaves = k.exactly.may_leave db h }
@@ -106,25 +98,26 @@ pub still_beside : (old new : State) → KeepsContent old new → (them : Neighb
     → HoldsClubAmong them content old → HoldsClubAmong them content new
 still_beside old new kept them content k = record { clear = k.clear; exactly = kept _ _ k.exactly }
 
-pub still_first : (old new : State) → KeepsContent old new → (them : Neighbours) (content : Content)
-    → IsFirstBeside them content old → IsFirstBeside them content new
-still_first old new kept them content k =
-    record { schema = k.schema; before = k.before; exactly = kept _ _ k.exactly }
-
 -- ---- the rows of a club among those of all tables
 
-pub rows_beside : (them : Neighbours) (content : Content) (s : State) → HoldsClubAmong them content s → HasRows content s
-rows_beside them content s k =
-    let schema = them.schema in
-    let whole = over schema content them.rows in (
+rows_at_current : (schema : Schema) (rows content : Content) (s : State)
+    → HoldsClubAmong (record { version = Current; schema = schema; rows = rows }) content s → HasRows content s
+rows_at_current schema rows content s k =
+    let them : Neighbours = record { version = Current; schema = schema; rows = rows } in
+    let whole = over them content in (
       schema,
       whole,
       k.clear.club,
-      all_weaker (HasTableAt schema) (λ table. by_club schema whole (tree_of table) ≡ content (tree_of table))
-          (λ table stands. over_club schema (all_stand schema k.clear.club) content them.rows table stands) in_order
-          k.clear.club,
+      all_from (λ table. by_club schema whole (tree_of table) ≡ content (tree_of table)) in_order (λ table has.
+          over_club them k.clear.club content table has (all_has (HasTableAt schema) in_order table k.clear.club has)),
       k.exactly,
     )
+
+pub rows_beside : (them : Neighbours) (content : Content) (s : State) → them.version ≡ Current
+    → HoldsClubAmong them content s → HasRows content s
+rows_beside them content s is =
+    at_version Current (λ them. HoldsClubAmong them content s → HasRows content s)
+    (λ schema rows. rows_at_current schema rows content s) them is
 
 -- A table of a club keeps its rows where it stands.
 pub cells_are : (table : of_club.Table) (tree : ℕ) (r : Row) → cells (made_as table tree) r ≡ cells (standing table) r
@@ -175,29 +168,20 @@ module _ (schema : Schema) (trees : Trees) where
       (all_has (λ t. Stores t trees whole) schema.tables (made_as table s.tree) all
       (has_got schema.tables s.place (made_as table s.tree) s.at)) (is s)) tables stand are)
 
-  -- So they do of rows that are over those of others.
-  over_stored : (content rows : Content) → AreStored schema trees (over schema content rows)
-      → (tables : List of_club.Table) → AllByRecursion (HasTableAt schema) tables
-      → AllByRecursion (StandsOrNot schema) in_order
-      → AllByRecursion (λ t. Stores t (by_club schema trees) content) (map standing tables)
-  over_stored content rows all tables stand or_not =
-      each_stored (over schema content rows) content all tables stand
-      (all_of (λ table. (s : HasTableAt schema table) → over schema content rows s.tree ≡ content (tree_of table))
-      (λ table s. over_at schema or_not content rows table s) tables)
+-- the tables of a version in a database with only a club
+pub tables_are : (version : Version) → map standing (tables_of version) ≡ (schema_of version).tables
+tables_are version = sym (take-map standing (table_count version) in_order)
 
-pub club_held : (them : Neighbours) (content : Content) (db : Database) → TakesClub Current them.schema
-    → HoldsBeside them content db → AreStored club_schema (club_trees db) content
-club_held them content db takes k =
-    subst (λ s. AreStored club_schema (by_club s db.trees) content) (sym k.schema)
-    (over_stored them.schema db.trees content them.rows k.tables in_order takes.club
-    (all_stand them.schema takes.club))
-
-pub first_held : (them : Neighbours) (content : Content) (db : Database) → HoldsFirst them content db
-    → AreStored first_schema (club_trees db) content
-first_held them content db k =
-    subst (λ s. AreStored first_schema (by_club s db.trees) content) (sym k.holds.schema)
-    (over_stored k.schema db.trees content them.rows k.holds.tables (tables_of First) k.before.tables.0
-    (stand_or_not First k.schema k.before.tables))
+-- So they do of rows that are over those of others.
+pub club_held : (them : Neighbours) (content : Content) (db : Database) → HasTables them.version them.schema
+    → HoldsBeside them content db → AreStored (schema_of them.version) (club_trees db) content
+club_held them content db club k =
+    subst (AllByRecursion (λ t. Stores t (club_trees db) content)) (tables_are them.version)
+    (subst (λ s. AllByRecursion (λ t. Stores t (by_club s db.trees) content) (map standing (tables_of them.version)))
+    (sym k.schema)
+    (each_stored them.schema db.trees (over them content) content k.tables (tables_of them.version) club
+    (all_from (λ table. (s : HasTableAt them.schema table) → over them content s.tree ≡ content (tree_of table))
+    (tables_of them.version) (λ table has s. over_at them club content table has s))))
 
 -- the rows of a table of the club, where it stands
 pub rows_standing : (content : Content) (s : State) (k : HasRows content s) (table : of_club.Table)
@@ -267,48 +251,44 @@ unused_by (table ∷ tables) schema all =
     let rest = unused_by tables (created schema (made_as table 0)) counted.1 in
     (not-true _ free.0, stored.0, not-true _ counted.0, rest)
 
-unused_alone : AreUnused (schema_after 0) in_order
+pub unused_alone : AreUnused (schema_after 0) in_order
 unfolding same_name
 unused_alone = unused_by in_order (schema_after 0) refl
 
-pub alone_room : HasRoom (schema_after 0) alone
-alone_room = record { trees = tt; unrelated = tt; unused = unused_alone; is = refl; bare = λ tree late. refl }
+pub alone_room : HasRoom (schema_after 0) (alone Current)
+alone_room = record {
+  version = refl;
+  trees = tt;
+  unrelated = tt;
+  unused = unused_alone;
+  is = refl;
+  bare = λ tree late. refl;
+}
 
-pub alone_takes : TakesClub Current club_schema
-alone_takes =
-    (made_takes_club (schema_after 0) room_alone unused_alone nothing
-    (λ tree late. refl)).0
+-- those of each version
+unused_first : (version : Version) → AreUnused (schema_after 0) (tables_of version)
+unused_first version =
+    (unused_parts (schema_after 0) (tables_of version) (later_tables version)
+    (subst (AreUnused (schema_after 0)) (sym (take-append-drop (table_count version) in_order)) unused_alone)).0
 
-first_stands : HasTables First first_schema
-first_stands =
-    all_weaker (Taken 0 first_schema) (HasTableAt first_schema) (λ table it. it.stands) (tables_of First)
-    (all_taken 0 (tables_of First) (schema_after 0) room_alone
-    (unused_parts (schema_after 0) (tables_of First) (EventRules ∷ []) unused_alone).0 (omega arith)).0
+made_alone : (version : Version) → made_in (schema_after 0) (tables_of version) ≡ schema_of version
+made_alone First = refl
+made_alone Current = refl
 
-unused_first : is_used first_schema (table_name EventRules) ≡ false
+pub alone_takes : (version : Version) → TakesClub version (schema_of version)
+alone_takes version =
+    subst (TakesClub version) (made_alone version)
+    (made_takes_club version (schema_after 0) room_alone (unused_first version) nothing (λ tree late. refl)).0
+
+unused_later : (version : Version)
+    → AllByRecursion (λ table. is_used (schema_of version) (table_name table) ≡ false) (later_tables version)
 unfolding same_name
-unused_first = refl
+unused_later First = (refl, tt)
+unused_later Current = tt
 
 -- A club that stands alone has the tables of its version.
 pub tables_alone : (version : Version) → HasTablesOf version (schema_of version)
-tables_alone First = (first_stands, (unused_first, tt))
-tables_alone Current = (alone_takes.club, tt)
-
-pub upgraded_alone : IsUpgraded first_schema alone
-upgraded_alone = record {
-  tables = (first_stands, (unused_first, tt));
-  clear = alone_takes;
-  is = refl;
-  counted = refl;
-  stored = refl;
-  bare = refl;
-}
-
-stand_alone : (version : Version) → HasTables version (schema_of version)
-stand_alone version = (tables_alone version).0
-
-or_not_alone : (version : Version) → AllByRecursion (StandsOrNot (schema_of version)) in_order
-or_not_alone version = stand_or_not version (schema_of version) (tables_alone version)
+tables_alone version = ((alone_takes version).club, unused_later version)
 
 -- Its tables stand where the club gives them their trees.
 trees_alone : (version : Version)
@@ -319,66 +299,60 @@ trees_alone Current = (refl, (refl, (refl, (refl, (refl, (refl, (refl, (refl, (r
 
 module _ (version : Version) (content : Content) where
   abbrev rows_alone : Content
-  rows_alone = over (schema_of version) content nothing
+  rows_alone = over (alone version) content
 
-  same_alone : AllByRecursion (λ t. HaveSame (content t.tree) (rows_alone t.tree)) (map standing (tables_of version))
+  same_alone : AreSame (schema_of version) content rows_alone
   same_alone =
-      all-map (λ (t : Table). HaveSame (content t.tree) (rows_alone t.tree)) standing (tables_of version)
-      (all_both (HasTableAt (schema_of version)) (λ table. tree_in (schema_of version) table ≡ Some (tree_of table))
-      (λ table. HaveSame (content (standing table).tree) (rows_alone (standing table).tree)) (λ table s is.
+      subst (AllByRecursion (λ (t : Table). HaveSame (content t.tree) (rows_alone t.tree))) (tables_are version)
+      (all-map (λ (t : Table). HaveSame (content t.tree) (rows_alone t.tree)) standing (tables_of version)
+      (all_from (λ table. HaveSame (content (standing table).tree) (rows_alone (standing table).tree))
+      (tables_of version) (λ table has.
+      let club = (alone_takes version).club in
+      let s = all_has (HasTableAt (schema_of version)) (tables_of version) table club has in
+      let is = all_has (λ u. tree_in (schema_of version) u ≡ Some (tree_of u)) (tables_of version) table
+      (trees_alone version) has in
       same_by _ _ (ap content (tree_is_of table)
-      ∙ sym (over_at (schema_of version) (or_not_alone version) content nothing table s)
-      ∙ ap rows_alone (same_Some _ _ (sym (tree_found (schema_of version) table s) ∙ is) ∙ sym (tree_is_of table))))
-      (tables_of version) (stand_alone version) (trees_alone version))
+      ∙ sym (over_at (alone version) club content table has s)
+      ∙ ap rows_alone (same_Some _ _ (sym (tree_found (schema_of version) table s) ∙ is) ∙ sym (tree_is_of table))))))
 
-same_back : (content : Content) → AreSame club_schema (over club_schema content nothing) content
-same_back content =
-    all_weaker (λ (t : Table). HaveSame (content t.tree) (over club_schema content nothing t.tree))
-    (λ (t : Table). HaveSame (over club_schema content nothing t.tree) (content t.tree))
-    (λ t same. record { there = same.back; back = same.there }) club_schema.tables (same_alone Current content)
+  same_back : AreSame (schema_of version) rows_alone content
+  same_back =
+      all_weaker (λ (t : Table). HaveSame (content t.tree) (rows_alone t.tree))
+      (λ (t : Table). HaveSame (rows_alone t.tree) (content t.tree))
+      (λ t same. record { there = same.back; back = same.there }) (schema_of version).tables same_alone
 
-pub beside_alone : (content : Content) (s : State) → IsExactly content s → HoldsClubAmong alone content s
-beside_alone content s k = record {
-  clear = alone_takes;
-  exactly = exactly_same content (over club_schema content nothing) s (same_alone Current content) k;
-}
+  pub beside_alone : (s : State) → of_schema.IsExactly (schema_of version) content s
+      → HoldsClubAmong (alone version) content s
+  beside_alone s k = record {
+    clear = alone_takes version;
+    exactly = exactly_on (schema_of version) content rows_alone s same_alone k;
+  }
 
-pub alone_exactly : (content : Content) (s : State) → HoldsClubAmong alone content s → IsExactly content s
-alone_exactly content s k = exactly_same (over club_schema content nothing) content s (same_back content) k.exactly
+  pub alone_exactly : (s : State) → HoldsClubAmong (alone version) content s
+      → of_schema.IsExactly (schema_of version) content s
+  alone_exactly s k = exactly_on (schema_of version) rows_alone content s same_back k.exactly
 
-pub left_alone : (content : Content) (db : Trees) → Leaves content db → LeavesBeside alone content db
-left_alone content db left = record {
-  clear = alone_takes;
-  leaves = leaves_same content (over club_schema content nothing) db (same_alone Current content) left;
-}
+  pub left_alone : (db : Trees) → of_schema.Leaves (schema_of version) content db
+      → LeavesBeside (alone version) content db
+  left_alone db left = record {
+    clear = alone_takes version;
+    leaves = leaves_on (schema_of version) content rows_alone db same_alone left;
+  }
 
-pub alone_leaves : (content : Content) (db : Trees) → LeavesBeside alone content db → Leaves content db
-alone_leaves content db left =
-    leaves_same (over club_schema content nothing) content db (same_back content) left.leaves
-
--- A club of schema 1 that stands alone is one without neighbours.
-pub first_alone : (content : Content) (s : State) → of_schema.IsExactly first_schema content s
-    → IsFirstBeside alone content s
-first_alone content s k = record {
-  schema = first_schema;
-  before = upgraded_alone;
-  exactly = exactly_on first_schema content (over first_schema content nothing) s (same_alone First content) k;
-}
+  pub alone_leaves : (db : Trees) → LeavesBeside (alone version) content db
+      → of_schema.Leaves (schema_of version) content db
+  alone_leaves db left = leaves_on (schema_of version) rows_alone content db same_back left.leaves
 
 -- What a database holds that has the tables of a version alone, it holds by the club's numbers.
-itself_stored : (version : Version) (db : Database) (content : Content) → of_schema.Holds (schema_of version) db content
-    → AllByRecursion (λ t. Stores t (club_trees db) content) (map standing (tables_of version))
-itself_stored version db content k =
+pub stored_alone : (version : Version) (db : Database) (content : Content)
+    → of_schema.Holds (schema_of version) db content → AreStored (schema_of version) (club_trees db) content
+stored_alone version db content k =
     let schema = schema_of version in
-    subst (λ s. AllByRecursion (λ t. Stores t (by_club s db.trees) content) (map standing (tables_of version)))
+    subst (AllByRecursion (λ t. Stores t (club_trees db) content)) (tables_are version)
+    (subst (λ s. AllByRecursion (λ t. Stores t (by_club s db.trees) content) (map standing (tables_of version)))
     (sym k.schema)
-    (each_stored schema db.trees content content k.tables (tables_of version) (stand_alone version)
+    (each_stored schema db.trees content content k.tables (tables_of version) (alone_takes version).club
     (all_weaker (λ table. tree_in schema table ≡ Some (tree_of table))
     (λ table. (s : HasTableAt schema table) → content s.tree ≡ content (tree_of table))
     (λ table is s. ap content (same_Some _ _ (sym (tree_found schema table s) ∙ is))) (tables_of version)
-    (trees_alone version)))
-
-pub stored_alone : (version : Version) (db : Database) (content : Content)
-    → of_schema.Holds (schema_of version) db content → AreStored (schema_of version) (club_trees db) content
-stored_alone First = itself_stored First
-stored_alone Current = itself_stored Current
+    (trees_alone version))))

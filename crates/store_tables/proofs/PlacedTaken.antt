@@ -31,7 +31,7 @@ use Rattle.store_tables.proofs.PlacedSteps.{AreHere, IsEmptyFrom, IsOwned, Leave
 use Rattle.store_tables.specs.Tables.{indexes_of, made_as}
 use Rattle.store_tables.specs.declared.names.Table as of_club
 use Rattle.store_tables.specs.declared.names.Table.TheVariants.{Members, Events, EventRules, Games, Meta}
-use Rattle.store_tables.specs.declared.names.Version.TheVariants.{Current}
+use Rattle.store_tables.specs.declared.names.Version.{Version}
 use Rattle.store_tables.proofs.PlacedSelects.{name_is, tree_is}
 use Rattle.store_tables.proofs.PlacedTrees.{in_all}
 use Rattle.sqlite_trees.proofs.ListLemmas.{all-append, all_both, all_weaker}
@@ -310,30 +310,32 @@ module _ (start : ℕ) where
       let more = all_taken tables next its rest (still_late start schema room table late) in
       ((taken_still tables next its table new, more.0), more.1)
 
--- a club that takes its rows, and has none
-abbrev pub TakesNone : Content → Schema → Type 0
-TakesNone whole schema = (takes : TakesClub Current schema) × AreHere Current schema takes.club whole nothing
+-- a club of this version that takes its rows, and has none
+abbrev pub TakesNone : Version → Content → Schema → Type 0
+TakesNone version whole schema =
+    (takes : TakesClub version schema) × AreHere version schema takes.club whole nothing
 
 -- A club that is made where there is room takes its rows, and has none at first.
-pub made_takes_club : (schema : Schema) → LeavesRoom schema → AreUnused schema (tables_of Current) → (whole : Content)
-    → IsEmptyFrom (next_tree schema) whole → TakesNone whole (made_in schema (tables_of Current))
-made_takes_club schema room free whole empty =
+pub made_takes_club : (version : Version) (schema : Schema) → LeavesRoom schema → AreUnused schema (tables_of version)
+    → (whole : Content) → IsEmptyFrom (next_tree schema) whole
+    → TakesNone version whole (made_in schema (tables_of version))
+made_takes_club version schema room free whole empty =
     let start = next_tree schema in
-    let made = made_in schema (tables_of Current) in
-    let all = all_taken start (tables_of Current) schema room free (le_refl start) in
+    let made = made_in schema (tables_of version) in
+    let all = all_taken start (tables_of version) schema room free (le_refl start) in
     let taken = all.0 in
-    let club : HasTables Current made =
-    all_weaker (Taken start made) (HasTableAt made) (λ table it. it.stands) (tables_of Current) taken in
-    let takes : TakesClub Current made = record {
+    let club : HasTables version made =
+    all_weaker (Taken start made) (HasTableAt made) (λ table it. it.stands) (tables_of version) taken in
+    let takes : TakesClub version made = record {
       club = club;
-      clear = each_from made (λ table s. IsLeftAlone made (made_as table s.tree)) (tables_of Current) club
+      clear = each_from made (λ table s. IsLeftAlone made (made_as table s.tree)) (tables_of version) club
           (λ table has s.
-          let it = all_has (Taken start made) (tables_of Current) table taken has in
+          let it = all_has (Taken start made) (tables_of version) table taken has in
           subst (λ n. IsLeftAlone made (made_as table n)) (one_tree made table it.stands s) it.clear);
       trees = all.1.trees;
     } in (
       takes,
-      each_from made (λ table s. whole s.tree ≡ nothing (tree_of table)) (tables_of Current) club (λ table has s.
-          let it = all_has (Taken start made) (tables_of Current) table taken has in
+      each_from made (λ table s. whole s.tree ≡ nothing (tree_of table)) (tables_of version) club (λ table has s.
+          let it = all_has (Taken start made) (tables_of version) table taken has in
           empty s.tree (subst (λ n. start ≤ n) (one_tree made table it.stands s) it.late)),
     )

@@ -8,8 +8,8 @@ use Rattle.store_tables.specs.Sql.{Schema, Has}
 use Rattle.sqlite_schema.specs.Names.{table_named}
 use Rattle.store_tables.specs.Contents.{Content}
 use Rattle.store_tables.specs.Names.{in_order, table_name, tree_of}
-use Rattle.store_tables.specs.Over.{is_tree, over, over_each}
-use Rattle.store_tables.specs.Placed.{HasTableAt, by_club, rows_at, tree_at, tree_in, tree_of_found}
+use Rattle.store_tables.specs.Over.{Neighbours, is_tree, over, over_each}
+use Rattle.store_tables.specs.Placed.{HasTableAt, HasTables, by_club, rows_at, tables_of, tree_at, tree_in, tree_of_found}
 use Rattle.store_tables.specs.declared.names.Table as of_club
 use Rattle.store_tables.specs.declared.names.Table.TheVariants.{Meta}
 use Rattle.store_tables.proofs.PlacedSelects.{tree_is}
@@ -41,10 +41,6 @@ by_club_at schema content table stands =
 
 -- ---- the rows of all tables
 
--- A table of a club stands in the schema, or there is none of its name.
-abbrev pub StandsOrNot : Schema → of_club.Table → Type 0
-StandsOrNot schema table = HasTableAt schema table ⊎ (table_named schema (table_name table) ≡ None)
-
 abbrev is_at : Schema → ℕ → of_club.Table → Bool
 is_at schema n table = is_tree n (tree_in schema table)
 
@@ -52,24 +48,21 @@ standing_at : (schema : Schema) (n : ℕ) (table : of_club.Table) (stands : HasT
     → is_at schema n table ≡ (n == stands.tree)
 standing_at schema n table stands = ap (is_tree n) (tree_found schema table stands)
 
-found_at : (schema : Schema) (n : ℕ) (table : of_club.Table) → StandsOrNot schema table → is_at schema n table ≡ true
-    → (stands : HasTableAt schema table) × (n ≡ stands.tree)
-found_at schema n table (inl stands) here =
-    (stands, eqb-true n stands.tree (sym (standing_at schema n table stands) ∙ here))
-found_at schema n table (inr missing) here =
-    absurd (true≢false (sym here ∙ ap (is_tree n) (tree_missing schema table missing)))
+found_at : (schema : Schema) (n : ℕ) (table : of_club.Table) (stands : HasTableAt schema table)
+    → is_at schema n table ≡ true → n ≡ stands.tree
+found_at schema n table stands here = eqb-true n stands.tree (sym (standing_at schema n table stands) ∙ here)
 
 module _ (schema : Schema) (club others : Content) where
   -- A table that stands has its rows of the club.
-  over_in : (tables : List of_club.Table) → AllByRecursion (StandsOrNot schema) tables → (table : of_club.Table)
+  over_in : (tables : List of_club.Table) → AllByRecursion (HasTableAt schema) tables → (table : of_club.Table)
       (stands : HasTableAt schema table) → Has tables table
       → over_each schema tables club others stands.tree ≡ club (tree_of table)
   over_in [] all table stands has = absurd has
   over_in (t ∷ tables) all table stands has = elim (cases_Bool (is_at schema stands.tree t)) [
     | inl here ↦
-        let other = found_at schema stands.tree t all.0 here in
+        let same = found_at schema stands.tree t all.0 here in
         (λ i. if here i then club (tree_of t) else over_each schema tables club others stands.tree)
-        ∙ ap (λ u. club (tree_of u)) (sym (two_tables schema table t stands other.0 other.1))
+        ∙ ap (λ u. club (tree_of u)) (sym (two_tables schema table t stands all.0 same))
     | inr past ↦
         (λ i. if past i then club (tree_of t) else over_each schema tables club others stands.tree)
         ∙ elim has [
@@ -94,32 +87,33 @@ module _ (schema : Schema) (club others : Content) where
 pub in_all : (table : of_club.Table) → Has in_order table
 in_all table = (has_found (λ t. tree_of t == tree_of table) in_order table (numbered_back table)).0
 
-module _ (schema : Schema) (all : AllByRecursion (StandsOrNot schema) in_order) (club others : Content) where
-  pub over_at : (table : of_club.Table) (stands : HasTableAt schema table)
-      → over schema club others stands.tree ≡ club (tree_of table)
+module _ (them : Neighbours) (club : HasTables them.version them.schema) (content : Content) where
+  pub over_at : (table : of_club.Table) → Has (tables_of them.version) table → (stands : HasTableAt them.schema table)
+      → over them content stands.tree ≡ content (tree_of table)
   unfolding over
-  over_at table stands = over_in schema club others in_order all table stands (in_all table)
+  over_at table has stands =
+      over_in them.schema content them.rows (tables_of them.version) club table stands has
 
   -- The rows of a club that are over others are the club's.
-  pub over_club : (table : of_club.Table) → HasTableAt schema table
-      → by_club schema (over schema club others) (tree_of table) ≡ club (tree_of table)
-  over_club table stands = by_club_at schema (over schema club others) table stands ∙ over_at table stands
+  pub over_club : (table : of_club.Table) → Has (tables_of them.version) table → HasTableAt them.schema table
+      → by_club them.schema (over them content) (tree_of table) ≡ content (tree_of table)
+  over_club table has stands = by_club_at them.schema (over them content) table stands ∙ over_at table has stands
 
-pub over_past : (schema : Schema) (club others : Content) (n : ℕ)
-    → AllByRecursion (λ table. is_tree n (tree_in schema table) ≡ false) in_order
-    → over schema club others n ≡ others n
+pub over_past : (them : Neighbours) (content : Content) (n : ℕ)
+    → AllByRecursion (λ table. is_tree n (tree_in them.schema table) ≡ false) (tables_of them.version)
+    → over them content n ≡ them.rows n
 unfolding over
-over_past schema club others n past = past_each schema club others in_order n past
+over_past them content n past = past_each them.schema content them.rows (tables_of them.version) n past
 
 -- ---- a tree is one of the club's, or it is not
 
 pub one_or_none : (schema : Schema) (n : ℕ) (tables : List of_club.Table)
-    → AllByRecursion (StandsOrNot schema) tables
+    → AllByRecursion (HasTableAt schema) tables
     → ((table : of_club.Table) × (stands : HasTableAt schema table) × (n ≡ stands.tree) × Has tables table)
     ⊎ AllByRecursion (λ table. is_tree n (tree_in schema table) ≡ false) tables
 one_or_none schema n [] all = inr tt
 one_or_none schema n (t ∷ tables) all = elim (cases_Bool (is_tree n (tree_in schema t))) [
-  | inl here ↦ let it = found_at schema n t all.0 here in inl (t, it.0, it.1, inl refl)
+  | inl here ↦ inl (t, all.0, found_at schema n t all.0 here, inl refl)
   | inr past ↦
       elim (one_or_none schema n tables all.1) [
         | inl found ↦ inl (found.0, found.1, found.2, inr found.3)

@@ -37,17 +37,22 @@ pub use Rattle.store_tables.proofs.AlterLemmas.{each_at, tables_altered}
 pub use Rattle.store_tables.proofs.Meanings.{defined, source_of, updates_of}
 pub use Rattle.store_tables.proofs.PlacedCreates.{creates_here, stands_already}
 pub use Rattle.store_tables.proofs.PlacedMakes.{MakesHere, makes_next, makes_no_more}
-pub use Rattle.store_tables.proofs.PlacedOver.{makes_all, fills, room_takes, widens}
+pub use Rattle.store_tables.proofs.PlacedOver.{at_version, makes_all, fills, room_takes}
+pub use Rattle.store_tables.proofs.MigrationLemmas.{widens}
 pub use Rattle.store_tables.proofs.MakeLemmas.{holds_nothing}
 -- A club among its neighbours.
 pub use Rattle.store_tables.proofs.PlacedTrees.{in_all}
 pub use Rattle.store_tables.proofs.OverLemmas.{beside_same, left_same}
-pub use Rattle.store_tables.proofs.OverLemmas.{leaves_beside, leaves_first, leaves_no_club, still_beside, still_first}
+pub use Rattle.store_tables.proofs.OverLemmas.{leaves_beside, leaves_no_club, still_beside}
 pub use Rattle.store_tables.proofs.OverLemmas.{rows_beside, rows_standing, rows_stored, club_held}
-pub use Rattle.store_tables.proofs.OverLemmas.{first_held, cells_are, keeps_moved, trees_here}
+pub use Rattle.store_tables.proofs.OverLemmas.{cells_are, keeps_moved, trees_here}
 pub use Rattle.store_tables.proofs.OverLemmas.{has_first_tables, versions_apart, tables_alone}
 pub use Rattle.store_tables.proofs.OverLemmas.{alone_takes, alone_room, beside_alone, alone_exactly}
-pub use Rattle.store_tables.proofs.OverLemmas.{left_alone, alone_leaves, first_alone, stored_alone}
+pub use Rattle.store_tables.proofs.OverLemmas.{left_alone, alone_leaves, stored_alone}
+-- Before and after a migration.
+pub use Rattle.store_tables.proofs.MigrationLemmas.{leaves_in_version, still_in_version, holds_itself, leaves_itself}
+pub use Rattle.store_tables.proofs.MigrationLemmas.{held_itself, left_itself, migrates_itself, tables_before}
+pub use Rattle.store_tables.proofs.MigrationLemmas.{alone_in_version}
 -- What every sound database has of what is asked of the tables.
 pub use Rattle.store_tables.proofs.PlacedSound.{sound_guarded, sound_stored, unique_here}
 pub use Rattle.store_tables.proofs.PlacedMissing.{rules_missing}

@@ -3,6 +3,7 @@ pub mod Changes
 pub mod Club
 pub mod Content
 pub mod Contents
+pub mod Migrations
 pub mod Names
 pub mod Over
 pub mod Placed

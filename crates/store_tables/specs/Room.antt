@@ -15,6 +15,7 @@ use Rattle.store_tables.specs.Names.{in_order, table_name}
 use Rattle.store_tables.specs.Over.{Neighbours}
 use Rattle.store_tables.specs.Tables.{made_as}
 use Rattle.store_tables.specs.declared.names.Table as of_club
+use Rattle.store_tables.specs.declared.names.Version.TheVariants.{Current}
 
 -- no table of a club has this name
 abbrev pub IsNoName : List ℕ → Type 0
@@ -37,8 +38,9 @@ AreUnused schema (table ∷ tables) =
     (is_used schema (table_name table) ≡ false) × (nat_lt (next_tree schema) (2 ^ 31) ≡ true)
     × (lacks_sequence (created schema (made_as table 0)) ≡ false) × AreUnused (created schema (made_as table 0)) tables
 
--- A club can be created in the schema; `them` is the result.
+-- A club of the current version can be created in the schema; `them` is the result.
 pub record HasRoom (schema : Schema) (them : Neighbours) : Type 0 where
+  pub version : them.version ≡ Current
   -- no two tables have the same tree
   pub trees : IsAscending (λ (a b : Table). a.tree ≡ b.tree → ⊥) schema.tables
   pub unrelated : AllByRecursion IsUnrelated schema.tables

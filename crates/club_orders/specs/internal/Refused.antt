@@ -32,7 +32,7 @@ pub record IsTakenOver (old new : State) : Type 0 where
   pub stands : (s : ClubState) → (has : HasState s old.committed.trees) → HoldsClubAmong has.them (tables s) new
   pub rows : (s : ClubState) → HasState s old.committed.trees → HasRows (tables s) new
   pub history : (from version : Version) (them : Neighbours) (sessions : List HistoryStep)
-      → IsReachable from version them sessions old.committed.trees
+      → them.version ≡ Current → IsReachable from version them sessions old.committed.trees
       → (version ≡ Current) × IsHistory from Current them sessions new
   pub leads : (from version : Version) (them : Neighbours) (sessions : List HistoryStep)
       → IsReachable from version them sessions old.committed.trees → (db : Trees) → new.may_leave db

@@ -3,6 +3,7 @@ use Rattle.std.specs.Prelude.{◌≡◌, Bool, false, List}
 use Rattle.sqlite.specs.Tree.{Trees}
 use Rattle.sqlite.specs.State.{State}
 use Rattle.store_tables.specs.Over.{Neighbours}
+use Rattle.store_tables.specs.declared.names.Version.TheVariants.{Current}
 use Rattle.club_rows.specs.Club.{ClubState}
 use Rattle.server.specs.Acknowledged.{LeadTo}
 use Rattle.server.specs.declared.connections.Served.{Served}
@@ -18,6 +19,7 @@ pub record IsAfter (needs_reopening : Bool) (now : State) (s : DeskState) (items
 -- Whatever is found is the tables of one state to which these items lead.
 pub record IsSettled (s : ClubState) (items : List Served) (MayFind : Trees → Type 0) : Type 0 where
   pub them : Neighbours
+  pub version : them.version ≡ Current
   pub after : DeskState
   pub leads : LeadTo served (beside_them them s) items after
   pub leaves : (found : Trees) → MayFind found → IsLeftBy found after

@@ -6,6 +6,7 @@ ghost use Rattle.sqlite.specs.State.{HasCleanDisk};
 ghost use Rattle.sqlite.specs.Held.{state};
 ghost use Rattle.sqlite_trees.specs.View.{doubt};
 ghost use Rattle.store_tables.specs.Over.{HasRows, HoldsClubAmong, LeavesBeside};
+ghost use Rattle.store_tables.specs.declared.names.Version.TheVariants.{Current};
 ghost use Rattle.club_core.specs.Answer.{answered, outcome_of, request_of};
 ghost use Rattle.club_rows.specs.Club.{ClubState, IsClub, tables};
 ghost use Rattle.club_changes.specs.Steps.{club_step, club_next};
@@ -53,11 +54,11 @@ impl<S: Alter> Club<S> {
             IsClub s → HasRows (tables s) (state S.Store self.old.connection) →
             outcome_of outcome ≡ answered (club_step s (request_of request.now))) }
         ensures step { HasCleanDisk (state S.Store self.new.connection) → OnOk result ((them : _) (s : ClubState) →
-            IsClub s → HoldsClubAmong them (tables s) (state S.Store self.old.connection) →
+            IsClub s → them.version ≡ Current → HoldsClubAmong them (tables s) (state S.Store self.old.connection) →
             HoldsClubAmong them (tables (club_next s (request_of request.now))) (state S.Store self.new.connection)) }
         ensures fault { HasCleanDisk (state S.Store self.new.connection) →
             OnErr result (self.old.needs_reopening ≡ false → (them : _) (s : ClubState) → IsClub s →
-            HoldsClubAmong them (tables s) (state S.Store self.old.connection) →
+            them.version ≡ Current → HoldsClubAmong them (tables s) (state S.Store self.old.connection) →
             (db : _) → (state S.Store self.new.connection).may_leave db → LeavesBeside them (tables s) db ⊎
             LeavesBeside them (tables (club_next s (request_of request.now))) db) }
     {
@@ -85,27 +86,28 @@ impl<S: Alter> Club<S> {
         ensures within { length result.outcomes.items ≤ length requests.now }
         ensures whole { result.fault ≡ None → length result.outcomes.items ≡ length requests.now }
         ensures outcomes { HasCleanDisk (state S.Store self.new.connection) → (them : _) (s : ClubState) → IsClub s →
-            HoldsClubAmong them (tables s) (state S.Store self.old.connection) →
+            them.version ≡ Current → HoldsClubAmong them (tables s) (state S.Store self.old.connection) →
             map outcome_of result.outcomes.items ≡ map answered
             (club_outcomes s (map request_of (take (length result.outcomes.items) requests.now))) }
         ensures stored { HasCleanDisk (state S.Store self.new.connection) → result.fault ≡ None →
             (them : _) (s : ClubState) → IsClub s →
-            HoldsClubAmong them (tables s) (state S.Store self.old.connection) → HoldsClubAmong them
-            (tables (club_fold s (map request_of requests.now))) (state S.Store self.new.connection) }
+            them.version ≡ Current → HoldsClubAmong them (tables s) (state S.Store self.old.connection) →
+            HoldsClubAmong them (tables (club_fold s (map request_of requests.now)))
+            (state S.Store self.new.connection) }
         ensures legal { HasCleanDisk (state S.Store self.new.connection) → result.fault ≡ None →
             (them : _) (s : ClubState) → IsClub s →
-            HoldsClubAmong them (tables s) (state S.Store self.old.connection) →
+            them.version ≡ Current → HoldsClubAmong them (tables s) (state S.Store self.old.connection) →
             IsClub (club_fold s (map request_of requests.now)) }
         ensures fault { HasCleanDisk (state S.Store self.new.connection) → IsSome result.fault →
             self.old.needs_reopening ≡ false → (them : _) (s : ClubState) → IsClub s →
-            HoldsClubAmong them (tables s) (state S.Store self.old.connection) →
+            them.version ≡ Current → HoldsClubAmong them (tables s) (state S.Store self.old.connection) →
             (db : _) → (state S.Store self.new.connection).may_leave db → LeavesBeside them
             (tables (club_fold s (map request_of (take (length result.outcomes.items) requests.now)))) db
             ⊎ LeavesBeside them
             (tables (club_fold s (map request_of (take (length result.outcomes.items + 1) requests.now)))) db }
         ensures left { HasCleanDisk (state S.Store self.new.connection) → self.old.needs_reopening ≡ false →
             (them : _) (s : ClubState) → IsClub s →
-            HoldsClubAmong them (tables s) (state S.Store self.old.connection) →
+            them.version ≡ Current → HoldsClubAmong them (tables s) (state S.Store self.old.connection) →
             (db : _) → (state S.Store self.new.connection).may_leave db →
             IsAfter them s requests.now (length result.outcomes.items) db
             ⊎ (IsSome result.fault × IsAfter them s requests.now (length result.outcomes.items + 1) db) }

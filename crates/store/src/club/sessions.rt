@@ -40,13 +40,13 @@ impl<S: Alter> Club<S> {
         ensures within { length result.outcomes.items ≤ length requests.now }
         ensures whole { result.fault ≡ None → length result.outcomes.items ≡ length requests.now }
         ensures outcomes { HasCleanDisk (state S.Store self.new.connection) → (them : _) (s : ClubState) → IsClub s →
-            HoldsClubAmong them (tables s) (state S.Store self.old.connection) →
+            them.version ≡ Current → HoldsClubAmong them (tables s) (state S.Store self.old.connection) →
             map outcome_of result.outcomes.items ≡ map answered
             (club_outcomes s (map request_of (take (length result.outcomes.items) requests.now))) }
         // From one legal state, whatever history led to it.
         ensures left { HasCleanDisk (state S.Store self.new.connection) → self.old.needs_reopening ≡ false →
             (them : _) (s : ClubState) → IsClub s →
-            HoldsClubAmong them (tables s) (state S.Store self.old.connection) →
+            them.version ≡ Current → HoldsClubAmong them (tables s) (state S.Store self.old.connection) →
             (db : _) → (state S.Store self.new.connection).may_leave db →
             IsAfter them s requests.now (length result.outcomes.items) db
             ⊎ (IsSome result.fault × IsAfter them s requests.now (length result.outcomes.items + 1) db) }
@@ -98,13 +98,13 @@ pub fn resume<S: Alter>(
         (club_outcomes s (map request_of (take (length resumed.0.outcomes.items) requests.now)))) }
     ensures history { IfOk result (λ resumed. HasCleanDisk (state S.Store resumed.1.connection) → Opens
         (state S.Store conn) → IsLive (state S.Store conn) →
-        (from version : _) (them : _) (sessions : _) →
+        (from version : _) (them : _) (sessions : _) → them.version ≡ Current →
         IsReachable from version them sessions (state S.Store conn).committed.trees →
         (db : _) → (state S.Store resumed.1.connection).may_leave db →
         IsReachable from version them (sessions ++ session_of requests.now resumed.0 ∷ []) db) }
     ensures stands { IfOk result (λ resumed. HasCleanDisk (state S.Store resumed.1.connection) → Opens
         (state S.Store conn) → IsLive (state S.Store conn) → resumed.0.fault ≡ None →
-        (from version : _) (them : _) (sessions : _) →
+        (from version : _) (them : _) (sessions : _) → them.version ≡ Current →
         IsReachable from version them sessions (state S.Store conn).committed.trees →
         (version ≡ Current) × IsHistory from Current them (sessions ++ session_of requests.now resumed.0 ∷ [])
         (state S.Store resumed.1.connection)) }

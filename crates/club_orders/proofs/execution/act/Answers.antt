@@ -76,19 +76,19 @@ returns-in-Batch-clause-next_state g c = rw c.in-Batch.is c.execute_in_club-in-B
 -- ---- histories
 
 pub returns-in-Init-clause-history : goal.returns-in-Init-clause-history
-returns-in-Init-clause-history g c clean opens live from versions them sessions led db left =
+returns-in-Init-clause-history g c clean opens live from versions them sessions current led db left =
     rw c.in-Init.is
     (led_still_in from versions them sessions db
     (c.init.ensures.history clean opens live from versions them sessions led db left))
 
 pub returns-in-Verify-clause-history : goal.returns-in-Verify-clause-history
-returns-in-Verify-clause-history g c clean opens live from versions them sessions led db left =
+returns-in-Verify-clause-history g c clean opens live from versions them sessions current led db left =
     rw c.in-Verify.is
     (led_still_in from versions them sessions db
     (c.verify.ensures.history clean opens live from versions them sessions led db left))
 
 pub returns-in-Backup-clause-history : goal.returns-in-Backup-clause-history
-returns-in-Backup-clause-history g c clean opens live from versions them sessions led db left =
+returns-in-Backup-clause-history g c clean opens live from versions them sessions current led db left =
     rw c.in-Backup.is
     (led_still_in from versions them sessions db
     (c.verify-in-Backup.ensures.history clean opens live from versions them sessions led db left))

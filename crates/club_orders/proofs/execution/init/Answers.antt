@@ -14,8 +14,8 @@ returns-in-Ok-clause-begun g c clean opens live empty db left =
     let same = c.into_connection-conn.ensures.same in
     let made = c.in-Ok.ensures.begins (subst (λ h. HasCleanDisk (state g.S.Store h)) same clean)
     (c.opened_empty_holds.ensures opens live empty) in
-    c.crash_keeps_history-in-Ok.ensures Current Current alone []
-    (subst (λ h. IsHistory Current Current alone [] (state g.S.Store h)) (sym same) made) db left
+    c.crash_keeps_history-in-Ok.ensures Current Current (alone Current) []
+    (subst (λ h. IsHistory Current Current (alone Current) [] (state g.S.Store h)) (sym same) made) db left
 
 pub returns-in-Ok-clause-history : goal.returns-in-Ok-clause-history
 returns-in-Ok-clause-history g c clean opens live from versions them sessions led db left =

@@ -17,14 +17,14 @@ use Rattle.club_orders.proofs.execution.run_upgrade.Goals as goal
 pub returns-in-Ok-clause-carries : goal.returns-in-Ok-clause-carries
 returns-in-Ok-clause-carries g c clean opens live them s has =
     let at = first_beside them s _ (c.holds_exactly.ensures opens live) has in
-    let (done, exactly) = c.in-Ok.ensures.done clean them s has.legal at in
+    let (done, exactly) = c.in-Ok.ensures.done clean them s has.legal has.version at in
     let is = c.report_of_upgrade.ensures ∙ ap upgrade_report done in
     subst (λ r. IsUpgradeResult them s r (state g.S.Store c.in-Ok.conn)) (sym is)
     (record { answer = tt; leaves = leaves_beside them (tables s) _ exactly })
 
 pub returns-in-Ok-clause-repeats : goal.returns-in-Ok-clause-repeats
 returns-in-Ok-clause-repeats g c clean opens live s club left =
-    let (done, exactly) = c.in-Ok.ensures.already clean left.them s club
+    let (done, exactly) = c.in-Ok.ensures.already clean left.them s club left.version
     (stands_beside s _ (c.holds_exactly.ensures opens live) left) in
     let is = c.report_of_upgrade.ensures ∙ ap upgrade_report done in (
       subst IsRepeated (sym is) tt,
@@ -42,8 +42,8 @@ returns-in-Ok-clause-shape g c =
     subst (λ r. IfUpgradeOf r P) (sym c.report_of_upgrade.ensures) (upgrade_found c.in-Ok.done P c.in-Ok.ensures.shape)
 
 pub returns-in-Ok-clause-history : goal.returns-in-Ok-clause-history
-returns-in-Ok-clause-history g c clean opens live from versions them chapters led db left =
-    let (is, at) = c.in-Ok.ensures.history clean opens live from led.version them chapters led.reached in
+returns-in-Ok-clause-history g c clean opens live from versions them chapters current led db left =
+    let (is, at) = c.in-Ok.ensures.history clean opens live from led.version them chapters current led.reached in
     let done = c.in-Ok.done in
     subst (λ r. IsReachableIn from (schemas_after_upgrade r versions) them (chapters ++ upgrade_of r ∷ []) db)
     (sym c.report_of_upgrade.ensures)
@@ -55,7 +55,7 @@ returns-in-Err-clause-carries g c clean opens live them s has =
     let exact = c.holds_exactly.ensures opens live in
     record {
       answer = is_taken_first them s _ exact has _ (c.in-Err.ensures.accepts_sound clean First s has.legal);
-      leaves = c.in-Err.ensures.fault clean them s has.legal (first_beside them s _ exact has);
+      leaves = c.in-Err.ensures.fault clean them s has.legal has.version (first_beside them s _ exact has);
     }
 
 pub returns-in-Err-clause-repeats : goal.returns-in-Err-clause-repeats
@@ -76,6 +76,6 @@ returns-in-Err-clause-refuses g c clean =
     }
 
 pub returns-in-Err-clause-history : goal.returns-in-Err-clause-history
-returns-in-Err-clause-history g c clean opens live from versions them chapters led db left =
+returns-in-Err-clause-history g c clean opens live from versions them chapters current led db left =
     upgrade_stopped from led.version versions them _ db led.among
-    (c.in-Err.ensures.after_crash clean opens live from led.version them chapters led.reached db left)
+    (c.in-Err.ensures.after_crash clean opens live from led.version them chapters current led.reached db left)

@@ -12,7 +12,7 @@ returns-in-Err-clause-answer g c clean opens live s is_club has =
     g.met.T.Execute.untaken c.args.task.now s c.args.moment _ _ (c.in-Err.ensures.accepts_sound clean opens live s is_club has)
 
 pub returns-in-Err-clause-history : goal.returns-in-Err-clause-history
-returns-in-Err-clause-history g c clean opens live from versions them sessions led db left =
+returns-in-Err-clause-history g c clean opens live from versions them sessions current led db left =
     rw (g.met.T.Execute.no_chapter c.args.task.now c.args.moment c.in-Err.unopened.fault)
     (record {
       version = led.version;
@@ -28,7 +28,7 @@ returns-clause-refuses g c clean = taken_over _ c.execute-report.result c.execut
 pub returns-clause-answer : goal.returns-clause-answer
 returns-clause-answer g c clean opens live s is_club has =
     let after = rw c.into_connection.ensures.same at clean in
-    c.execute-report.ensures.answer after has.them s is_club
+    c.execute-report.ensures.answer after has.them s is_club has.version
     ((c.in-Ok.ensures.taken (omega (arith, c.execute-report.ensures.clean, after)) opens live).stands s has)
 
 pub returns-clause-older : goal.returns-clause-older
@@ -37,11 +37,11 @@ returns-clause-older g c clean opens live them s first =
     absurd ((c.in-Ok.ensures.taken (omega (arith, c.execute-report.ensures.clean, after)) opens live).newer them s first)
 
 pub returns-clause-history : goal.returns-clause-history
-returns-clause-history g c clean opens live from versions them sessions led db left =
+returns-clause-history g c clean opens live from versions them sessions current led db left =
     let same = c.into_connection.ensures.same in
     let after = rw same at clean in
     let taken = c.in-Ok.ensures.taken (omega (arith, c.execute-report.ensures.clean, after)) opens live in
-    let (is, at) = taken.history from led.version them sessions led.reached in
+    let (is, at) = taken.history from led.version them sessions current led.reached in
     record {
       version = Current;
       among = subst (Has versions) is led.among;
@@ -61,4 +61,4 @@ returns-clause-next_state g c clean opens live s is_club has db left =
     let same = c.into_connection.ensures.same in
     let after = rw same at clean in
     let taken = c.in-Ok.ensures.taken (omega (arith, c.execute-report.ensures.clean, after)) opens live in
-    c.execute-report.ensures.next_state after has.them s is_club (taken.stands s has) db (rw same at left)
+    c.execute-report.ensures.next_state after has.them s is_club has.version (taken.stands s has) db (rw same at left)

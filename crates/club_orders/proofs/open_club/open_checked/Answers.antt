@@ -21,7 +21,7 @@ returns-clause-taken g c =
     let old = state g.S.Store c.args.conn in
     let new = state g.S.Store club.connection in
     record {
-      newer = λ them s first. older clean them s first.legal (first_beside them s old exact first);
+      newer = λ them s first. older clean them s first.legal first.version (first_beside them s old exact first);
       legal = λ has.
           let (stands, unchanged, may) = told.1.1.0 clean has in
           let (s, is_club, holds) = told.1.1.1 clean has (live opens.is_open).0 in
@@ -29,9 +29,10 @@ returns-clause-taken g c =
       stands = λ s has.
           still_beside old new (reads.kept refl clean) has.them (tables s) (stands_beside s old exact has);
       rows = λ s has. still_there s old exact has new (reads.kept refl clean);
-      history = λ from version them sessions led.
+      history = λ from version them sessions current led.
           let (is, at) =
-          newer_history from version them sessions old (older clean them) (found from version them sessions led) in
+          newer_history from version them sessions old (λ s legal. older clean them s legal current)
+          (found from version them sessions led) in
           (is, still_stands from them sessions old new (reads.kept refl clean) at);
       leads = λ from version them sessions led db left.
           c.crash_keeps_history.ensures from version them sessions (found from version them sessions led) db
@@ -64,7 +65,7 @@ returns-clause-older g c =
     IfErr-weaker c.adopt.result _ _
     (λ u older clean opens live them s first.
     let exact = c.holds_exactly.ensures opens live in
-    older clean them s first.legal (first_beside them s _ exact first) (first_shape them s _ exact first))
+    older clean them s first.legal first.version (first_beside them s _ exact first) (first_shape them s _ exact first))
     c.adopt.ensures.first
 
 pub returns-clause-history : goal.returns-clause-history

@@ -73,14 +73,14 @@ returns-clause-given g c clean s are =
     (are.finds _ (record { holds = here.holds; reads = here.reads }))
 
 pub returns-clause-history : goal.returns-clause-history
-returns-clause-history g c clean from versions them sessions led left may found finds =
+returns-clause-history g c clean from versions them sessions current led left may found finds =
     let after = was_clean _ _ c.close.ensures.clean clean in
     let before = was_clean _ _ c.act-report.ensures.clean after in
     let opened = (rw c.in-Ok.is at c.requires.opened) before in
     let here = (rw c.in-Ok.is at c.requires.found) before in
     ∥∥₁_elim (led _ (record { holds = here.holds; reads = here.reads })) squash₁ (λ was.
     ∥∥₁_map (c.close.ensures.member clean left may found finds.holds)
-    (λ now. c.act-report.ensures.history after opened.0 opened.1 from versions them sessions was found now))
+    (λ now. c.act-report.ensures.history after opened.0 opened.1 from versions them sessions current was found now))
 
 pub returns-clause-next_state : goal.returns-clause-next_state
 returns-clause-next_state g c clean them s are left may found finds =
@@ -90,6 +90,7 @@ returns-clause-next_state g c clean them s are left may found finds =
     let here = (rw c.in-Ok.is at c.requires.found) before in
     let has : HasState s (file_state c.in-Ok.conn).committed.trees = record {
       them = them;
+      version = are.version;
       leaves = are.finds _ (record { holds = here.holds; reads = here.reads });
       shape = are.shape;
     } in

@@ -17,19 +17,19 @@ use Rattle.club_session.proofs.TurnLemmas.{reads_led}
 use Rattle.club_session.proofs.serving.serve_club.Goals as goal
 
 pub returns-in-Err-clause-history : goal.returns-in-Err-clause-history
-returns-in-Err-clause-history g c clean opens live from version them sessions led =
+returns-in-Err-clause-history g c clean opens live from version them sessions current led =
     reads_led from version them sessions (state g.S.Store c.args.conn) (state g.S.Store c.in-Err.unopened.conn)
     c.in-Err.ensures.reads clean
     (c.crash_keeps_history.ensures from version them sessions
     (c.opened_history_holds.ensures opens live from version them sessions led))
 
 pub returns-clause-history : goal.returns-clause-history
-returns-clause-history g c clean opens live from version them sessions led =
+returns-clause-history g c clean opens live from version them sessions current led =
     let same = c.into_connection.ensures.same in
     let after : HasCleanDisk (state g.S.Store c.serve_open-has_failed.new.club.club.connection) =
     subst (λ k. HasCleanDisk (state g.S.Store k)) same clean in
     let before = c.serve_open-has_failed.ensures.clean after in
-    let (is, stood) = current_taken from version them sessions (state g.S.Store c.args.conn)
+    let (is, stood) = current_taken from version them sessions (state g.S.Store c.args.conn) current
     (λ known. (c.in-Ok.ensures.unchanged before known).0)
     (c.opened_history_holds.ensures opens live from version them sessions led) in
     let stands = still_stands from them sessions (state g.S.Store c.args.conn) (state g.S.Store c.in-Ok.club.connection)
@@ -39,12 +39,12 @@ returns-clause-history g c clean opens live from version them sessions led =
     (sym is) (c.serve_open-has_failed.ensures.history after from them sessions stands))
 
 pub returns-clause-stands : goal.returns-clause-stands
-returns-clause-stands g c clean opens live none from version them sessions led =
+returns-clause-stands g c clean opens live none from version them sessions current led =
     let same = c.into_connection.ensures.same in
     let after : HasCleanDisk (state g.S.Store c.serve_open-has_failed.new.club.club.connection) =
     subst (λ k. HasCleanDisk (state g.S.Store k)) same clean in
     let before = c.serve_open-has_failed.ensures.clean after in
-    let (is, stood) = current_taken from version them sessions (state g.S.Store c.args.conn)
+    let (is, stood) = current_taken from version them sessions (state g.S.Store c.args.conn) current
     (λ known. (c.in-Ok.ensures.unchanged before known).0)
     (c.opened_history_holds.ensures opens live from version them sessions led) in
     let stands = still_stands from them sessions (state g.S.Store c.args.conn) (state g.S.Store c.in-Ok.club.connection)
@@ -106,7 +106,7 @@ returns-in-Err-clause-accepts_sound g c clean opens live s is_club has =
       exactly = c.holds_exactly.ensures opens live _ _ has.leaves.leaves;
     } in
     good_told c.in-Err.unopened.fault c.fault_of_opening.result c.fault_of_opening.ensures
-    (c.in-Err.ensures.accepts_sound clean s is_club (holds_beside has.them (tables s) was found)
+    (c.in-Err.ensures.accepts_sound clean s is_club (holds_beside has.them (tables s) was has.version found)
     (subst (λ schema. is_of_club Current schema ≡ true) (sym found.exactly.now.schema) has.shape))
 
 pub returns-clause-accepts_sound : goal.returns-clause-accepts_sound
@@ -126,6 +126,7 @@ returns-in-Err-clause-acknowledged g c before had =
           } in
           record {
             them = has.them;
+            version = has.version;
             after = beside_them has.them s;
             leads = refl;
             leaves =
@@ -151,13 +152,14 @@ returns-clause-acknowledged g c before had =
           } in
           let is : IsServed false now (beside_them has.them s) = record {
             ready = refl;
+            version = has.version;
             legal = is_club;
             exactly = still_beside was now (c.in-Ok.ensures.kept.kept refl before_it) has.them (tables s) found;
           } in
           let (t, on, left) =
           (leads after (beside_them has.them s) is).leaves db
           (subst (λ k. (state g.S.Store k).may_leave db) same may) in
-          record { them = has.them; after = t; leads = on; leaves = left },
+          record { them = has.them; version = has.version; after = t; leads = on; leaves = left },
     )
 
 pub returns-clause-answered : goal.returns-clause-answered
@@ -178,6 +180,7 @@ returns-clause-answered g c none before had =
           } in
           let is : IsServed false now (beside_them has.them s) = record {
             ready = refl;
+            version = has.version;
             legal = is_club;
             exactly = still_beside was now (c.in-Ok.ensures.kept.kept refl before_it) has.them (tables s) found;
           } in
@@ -186,6 +189,7 @@ returns-clause-answered g c none before had =
           (leads after (beside_them has.them s) is).stands (sym c.serve_open-has_failed.ensures.told ∙ open_still) in
           record {
             them = has.them;
+            version = has.version;
             after = t;
             leads = on;
             leaves = λ db may.

@@ -17,7 +17,16 @@ loop-init g c =
       leads = λ before had. (
         [],
         subst P (sym (append-nil before)) had,
-        λ clean s is. (s, refl, record { ready = c.requires; legal = is.legal; exactly = is.exactly }),
+        λ clean s is. (
+          s,
+          refl,
+          record {
+            ready = c.requires;
+            version = is.version;
+            legal = is.legal;
+            exactly = is.exactly;
+          },
+        ),
       );
     }
 

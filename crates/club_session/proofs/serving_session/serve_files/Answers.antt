@@ -4,20 +4,21 @@ use Rattle.std.proofs.Math.Logic.{∥∥₁_elim, ∥∥₁_map}
 use Rattle.sqlite_wal.specs.Files.{image_at}
 use Rattle.sqlite_store.specs.FileStore.{state as store_state}
 use Rattle.sqlite.specs.Files.{file_state}
-use Rattle.store_tables.proofs.Proved.{leaves_beside}
+use Rattle.store_tables.proofs.Proved.{leaves_in_version}
 use Rattle.store_files.proofs.Proved.{was_clean}
 use Rattle.club_session.proofs.FoundLemmas.{shaped_files, taken_files, told_files}
 use Rattle.club_session.proofs.TaskLemmas.{if_taken}
 use Rattle.club_session.proofs.serving_session.serve_files.Goals as goal
 
 pub returns-clause-history : goal.returns-clause-history
-returns-clause-history g c clean from versions them sessions led left may found finds =
+returns-clause-history g c clean from versions them sessions current led left may found finds =
     let after = was_clean _ _ c.close.ensures.clean clean in
     let before = c.serve_club-fault.ensures.clean after in
     let opened = c.in-Ok.ensures.opened before in
     let here = c.in-Ok.ensures.found before in
     ∥∥₁_elim (led _ (record { holds = here.holds; reads = here.reads })) squash₁ (λ was.
-    let on = c.serve_club-fault.ensures.history after opened.0 opened.1 from was.version them sessions was.reached in
+    let on = c.serve_club-fault.ensures.history after opened.0 opened.1 from was.version them sessions current
+    was.reached in
     ∥∥₁_map (c.close.ensures.member clean left may found finds.holds)
     (λ now. record {
       turns = on.turns;
@@ -26,7 +27,7 @@ returns-clause-history g c clean from versions them sessions led left may found 
     }))
 
 pub returns-clause-whole : goal.returns-clause-whole
-returns-clause-whole g c clean none from versions them sessions led left may found finds =
+returns-clause-whole g c clean none from versions them sessions current led left may found finds =
     let after = was_clean _ _ c.close.ensures.clean clean in
     let before = c.serve_club-fault.ensures.clean after in
     let opened = c.in-Ok.ensures.opened before in
@@ -34,7 +35,8 @@ returns-clause-whole g c clean none from versions them sessions led left may fou
     let nothing : c.serve_club-fault.result.0 ≡ None = cc in
     ∥∥₁_elim (led _ (record { holds = here.holds; reads = here.reads })) squash₁ (λ was.
     let (is, on) =
-    c.serve_club-fault.ensures.stands after opened.0 opened.1 nothing from was.version them sessions was.reached in
+    c.serve_club-fault.ensures.stands after opened.0 opened.1 nothing from was.version them sessions current
+    was.reached in
     ∥∥₁_map (c.close.ensures.member clean left may found finds.holds) (λ now. (
       record {
         turns = on.turns;
@@ -46,7 +48,7 @@ returns-clause-whole g c clean none from versions them sessions led left may fou
             after = on.stands.after;
             legal = on.stands.legal;
             leads = on.stands.leads;
-            leaves = leaves_beside them _ _ on.stands.exactly found now;
+            leaves = leaves_in_version Current them _ _ on.stands.exactly found now;
           };
         };
       },
@@ -123,6 +125,7 @@ returns-clause-answered g c none before had =
           let is = settled after opened.0 opened.1 s are.legal has in
           record {
             them = is.them;
+            version = is.version;
             after = is.after;
             leads = is.leads;
             leaves = λ left may found finds.

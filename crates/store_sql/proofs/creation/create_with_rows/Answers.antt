@@ -4,6 +4,7 @@ use Rattle.store_tables.specs.Sql.{HasCleanDisk}
 use Rattle.store_tables.specs.internal.Contents.{opening}
 use Rattle.store_tables.specs.internal.Changed.{changed}
 use Rattle.store_tables.specs.Over.{alone}
+use Rattle.store_tables.specs.declared.names.Version.TheVariants.{Current}
 use Rattle.store_tables.proofs.Proved.{alone_exactly, alone_takes}
 use Rattle.store_sql.proofs.CommitLemmas.{commit_survives, commits_beside, fits_alone, left_alone}
 use Rattle.store_sql.proofs.SelectLemmas.{always_err}
@@ -15,8 +16,9 @@ returns-clause-stored g c clean k =
     let late : HasCleanDisk (state g.S.Store end) = search rules in
     let begun = c.transaction-tx.ensures.begun in
     let steps = c.in_ok-fill_inside.ensures.filled (omega (arith, c.commit.ensures.survives.clean)) (rw begun) in
-    alone_exactly (changed c.args.changes.now opening) _
-    (commits_beside g.S.Store alone _ c.fill_inside.new.tx.conn.now end c.conn-2-1.given.0 (search rules) alone_takes
+    alone_exactly Current (changed c.args.changes.now opening) _
+    (commits_beside g.S.Store (alone Current) _ c.fill_inside.new.tx.conn.now end c.conn-2-1.given.0 (search rules)
+    (alone_takes Current)
     (fits_alone _ (state g.S.Store c.args.conn.now) _ (rw begun at steps.holds) k) (c.in_ok-commit.ensures.ok late).1
     (g.met.S.Store.settled end.store))
 

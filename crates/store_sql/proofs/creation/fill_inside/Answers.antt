@@ -9,7 +9,7 @@ returns-clause-filled g c clean inside =
     let two = c.in_ok-put_changes.ensures.put clean one.inside in
     record {
       holds = λ schema them room k.
-          two.holds them (room_takes schema them room _ k) opening (one.holds schema them room k);
+          two.holds them room.version (room_takes schema them room _ k) opening (one.holds schema them room k);
       committed = two.committed ∙ one.committed;
       inside = two.inside;
     }

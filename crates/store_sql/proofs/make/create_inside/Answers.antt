@@ -19,4 +19,5 @@ returns-in_err-put_meta-clause-known g c clean inside schema them room holds =
     let made = c.in_ok-make_tables.ensures.made (omega arith) inside in
     handed_on _ _ c.from_residual-in_err-put_meta.ensures.1
     (c.in_err-put_meta.ensures.known clean made.inside
-    (subst (TakesClub Current) (sym (made.made schema them room holds).schema) (room_takes schema them room _ holds)))
+    (subst (TakesClub Current) (sym (made.made schema them room holds).schema)
+    (subst (λ v. TakesClub v them.schema) room.version (room_takes schema them room _ holds))))

@@ -4,6 +4,7 @@ use Rattle.store_tables.specs.Sql.{HasCleanDisk}
 use Rattle.store_tables.specs.internal.Contents.{opening}
 use Rattle.store_tables.specs.Over.{alone}
 use Rattle.store_tables.specs.Tables.{schema_after}
+use Rattle.store_tables.specs.declared.names.Version.TheVariants.{Current}
 use Rattle.store_tables.proofs.Proved.{alone_exactly, alone_room, alone_takes, holds_nothing, leaves_no_club}
 use Rattle.store_tables.proofs.Proved.{room_takes}
 use Rattle.store_sql.proofs.CreateLemmas.{handed_on}
@@ -18,8 +19,9 @@ returns-clause-stored g c clean k =
     let late : HasCleanDisk (state g.S.Store end) = search rules in
     let begun = c.transaction-tx.ensures.begun in
     let steps = c.in_ok-create_inside.ensures.filled (omega (arith, c.commit.ensures.survives.clean)) (rw begun) in
-    alone_exactly opening _
-    (commits_beside g.S.Store alone _ c.create_inside.new.tx.conn.now end c.conn-2-1.given.0 (search rules) alone_takes
+    alone_exactly Current opening _
+    (commits_beside g.S.Store (alone Current) _ c.create_inside.new.tx.conn.now end c.conn-2-1.given.0 (search rules)
+    (alone_takes Current)
     (fits_alone _ (state g.S.Store c.args.conn.now) _ (rw begun at steps.holds) k) (c.in_ok-commit.ensures.ok late).1
     (g.met.S.Store.settled end.store))
 
@@ -80,7 +82,7 @@ returns-in_err-create_inside-clause-known g c clean k =
     let begun = c.transaction-tx.ensures.begun in
     let late : HasCleanDisk (state g.S.Store c.create_inside.new.tx.conn.now) = search rules in
     handed_on _ _ c.from_residual.ensures.1
-    ((rw begun at c.in_err-create_inside.ensures.known) late refl (schema_after 0) alone alone_room
+    ((rw begun at c.in_err-create_inside.ensures.known) late refl (schema_after 0) (alone Current) alone_room
     (holds_nothing (schema_after 0) _ k.now))
 
 pub returns-in_err-commit-clause-known : goal.returns-in_err-commit-clause-known

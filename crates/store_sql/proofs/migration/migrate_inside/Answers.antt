@@ -8,9 +8,10 @@ returns-clause-widened g c clean inside =
     let two = c.in_ok-put_all.ensures.put (omega arith) one.inside in
     let three = c.in_ok-put.ensures.put clean two.inside in
     record {
-      holds = λ them content free k.
-          let takes = k.before.clear in
-          three.holds them takes _ (two.holds them takes content (one.holds them content free k));
+      holds = λ before first after current migrates club content free k.
+          let takes = migrates.clear in
+          three.holds after current takes _
+          (two.holds after current takes content (one.holds before first after current migrates club content free k));
       committed = three.committed ∙ two.committed ∙ one.committed;
       inside = three.inside;
     }

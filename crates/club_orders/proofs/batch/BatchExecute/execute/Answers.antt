@@ -12,11 +12,11 @@ use Rattle.club_orders.proofs.GivingLemmas.{given_of}
 use Rattle.club_orders.proofs.batch.BatchExecute.execute.Goals as goal
 
 pub returns-clause-answer : goal.returns-clause-answer
-returns-clause-answer g c clean them s is_club here =
+returns-clause-answer g c clean them s is_club current here =
     let before : HasCleanDisk (state g.S.Store c.refusal_among.new.club.connection) =
     omega (arith, c.session-outcomes.ensures.clean, clean) in
     let now = still_beside _ _ (c.in-Ok-None.ensures.reads.kept refl before) them (tables s) here in
-    let asked = c.in-Ok-None.ensures.asked before s is_club (rows_beside them (tables s) _ here) in (
+    let asked = c.in-Ok-None.ensures.asked before s is_club (rows_beside them (tables s) _ current here) in (
       subst (λ r. AreAsked s c.args.moment c.args.self.now.questions.items r) c.in-Ok-None.field-0-is
           (subst (λ qs. AreAsked s c.args.moment qs c.in-Ok-None.field-0) c.as_slice-2.ensures.value asked),
       given_of s c.args.self.now
@@ -27,7 +27,7 @@ returns-clause-answer g c clean them s is_club here =
           })
           c.as_slice-3.result.now c.as_slice-3.ensures.value
           (c.in-Ok.ensures.items ∙ c.as_slice.ensures.value) c.session-outcomes.ensures.within
-          (c.session-outcomes.ensures.outcomes clean them s is_club now) c.session-outcomes.ensures.whole
+          (c.session-outcomes.ensures.outcomes clean them s is_club current now) c.session-outcomes.ensures.whole
           (c.session-outcomes.ensures.possible_faults c.in-Ok-None.ensures.ready),
     )
 
@@ -41,13 +41,13 @@ returns-clause-history g c clean from them sessions at db left =
     (c.session-outcomes.ensures.history clean c.in-Ok-None.ensures.ready from them sessions now db left)
 
 pub returns-in-Ok-Some-clause-answer : goal.returns-in-Ok-Some-clause-answer
-returns-in-Ok-Some-clause-answer g c clean them s is_club here =
-    let asked = c.in-Ok-Some.ensures.asked clean s is_club (rows_beside them (tables s) _ here) in
+returns-in-Ok-Some-clause-answer g c clean them s is_club current here =
+    let asked = c.in-Ok-Some.ensures.asked clean s is_club (rows_beside them (tables s) _ current here) in
     subst (λ r. AreAsked s c.args.moment c.args.self.now.questions.items r) c.in-Ok-Some.field-0-is
     (subst (λ qs. AreAsked s c.args.moment qs c.in-Ok-Some.field-0) c.as_slice-2.ensures.value asked)
 
 pub returns-clause-next_state : goal.returns-clause-next_state
-returns-clause-next_state g c clean them s is_club here db left =
+returns-clause-next_state g c clean them s is_club current here db left =
     let before : HasCleanDisk (state g.S.Store c.refusal_among.new.club.connection) =
     omega (arith, c.session-outcomes.ensures.clean, clean) in
     let now = still_beside _ _ (c.in-Ok-None.ensures.reads.kept refl before) them (tables s) here in
@@ -55,15 +55,15 @@ returns-clause-next_state g c clean them s is_club here db left =
     subst (λ rs. IsAfter them s rs (length batched.outcomes.items) db
     ⊎ (IsSome batched.fault × IsAfter them s rs (length batched.outcomes.items + 1) db))
     c.as_slice-3.ensures.value
-    (c.session-outcomes.ensures.left clean c.in-Ok-None.ensures.ready them s is_club now db left)
+    (c.session-outcomes.ensures.left clean c.in-Ok-None.ensures.ready them s is_club current now db left)
 
 pub returns-in-Ok-Some-clause-next_state : goal.returns-in-Ok-Some-clause-next_state
-returns-in-Ok-Some-clause-next_state g c clean them s is_club here db left =
+returns-in-Ok-Some-clause-next_state g c clean them s is_club current here db left =
     leaves_beside them (tables s) _ here db (c.in-Ok-Some.ensures.reads.may clean db left)
 
 pub returns-in-Err-refusal_among-clause-next_state : goal.returns-in-Err-refusal_among-clause-next_state
-returns-in-Err-refusal_among-clause-next_state g c clean them s is_club here db left =
+returns-in-Err-refusal_among-clause-next_state g c clean them s is_club current here db left =
     leaves_beside them (tables s) _ here db (c.in-Err-refusal_among.ensures.reads.may clean db left)
 
 pub returns-in-Err-clause-next_state : goal.returns-in-Err-clause-next_state
-returns-in-Err-clause-next_state g c clean them s is_club here = leaves_beside them (tables s) _ here
+returns-in-Err-clause-next_state g c clean them s is_club current here = leaves_beside them (tables s) _ here

@@ -7,8 +7,8 @@ use Rattle.club_orders.proofs.SessionLemmas.{led_still, left_led}
 use Rattle.club_orders.proofs.execution.QuestionExecute.execute.Goals as goal
 
 pub returns-clause-answer : goal.returns-clause-answer
-returns-clause-answer g c clean them s is_club here =
-    let rows = rows_beside them (tables s) _ here in
+returns-clause-answer g c clean them s is_club current here =
+    let rows = rows_beside them (tables s) _ current here in
     let answer = c.ask.result in
     rw c.report_of_question.ensures.report
     (shows s c.args.moment c.args.self.now _ _ answer
@@ -21,5 +21,5 @@ returns-clause-history g c clean from them sessions at db left =
     led_still from Current them sessions db (left_led from them sessions _ at db (c.ask.ensures.reads.may clean db left))
 
 pub returns-clause-next_state : goal.returns-clause-next_state
-returns-clause-next_state g c clean them s is_club here db left =
+returns-clause-next_state g c clean them s is_club current here db left =
     leaves_beside them (tables s) _ here db (c.ask.ensures.reads.may clean db left)

@@ -21,9 +21,9 @@ returns-clause-serves g c clean s served =
     (omega (arith, c.seconds-within.ensures.value, c.seconds-within.ensures.range))
     c.apply.ensures.stays_open c.apply.ensures.ends c.apply.ensures.possible_faults
     (if_ok _ _ c.apply.result (c.apply.ensures.answer clean)
-    (λ outcome is. is s.state served.legal (rows_beside _ _ _ served.exactly)))
+    (λ outcome is. is s.state served.legal (rows_beside _ _ _ served.version served.exactly)))
     (on_ok c.apply.result (c.apply.ensures.step clean)
-    (λ is. is s.them s.state served.legal served.exactly))
+    (λ is. is s.them s.state served.legal served.version served.exactly))
     (on_err c.apply.result (c.apply.ensures.fault clean)
-    (λ left. left served.ready s.them s.state served.legal served.exactly))
+    (λ left. left served.ready s.them s.state served.legal served.version served.exactly))
     served

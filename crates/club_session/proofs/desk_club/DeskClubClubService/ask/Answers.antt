@@ -9,7 +9,7 @@ pub returns-in-Ok-clause-serves : goal.returns-in-Ok-clause-serves
 returns-in-Ok-clause-serves g c clean s served = (
   asking_shown s.state c.args.moment c.args.question.now c.in-Ok.refusal c.new-bytes.result.items c.ask.new.writer.items
       c.text_or_refusal.result c.new-bytes.ensures.items c.text_or_refusal.ensures
-      (c.in-Ok.ensures.shown clean s.state served.legal (rows_beside _ _ _ served.exactly)),
+      (c.in-Ok.ensures.shown clean s.state served.legal (rows_beside _ _ _ served.version served.exactly)),
   read_stands c.args.self.now.club.needs_reopening c.ask.new.self.needs_reopening
       (state g.S.Store c.args.self.now.club.connection) (state g.S.Store c.ask.new.self.connection) s
       c.in-Ok.ensures.stays_open (c.in-Ok.ensures.reads.kept refl clean) served,

@@ -19,5 +19,5 @@ returns-clause-serves g c clean s served =
     c.member_by_key.result c.club_fault.result c.club_fault.ensures c.member_by_key.ensures.stays_open c.member_by_key.ensures.ends
     c.member_by_key.ensures.possible_faults c.member_by_key.ensures.reads
     (if_ok _ _ c.member_by_key.result (c.member_by_key.ensures.held clean)
-    (λ name held. held s.state served.legal (rows_beside _ _ _ served.exactly)))
+    (λ name held. held s.state served.legal (rows_beside _ _ _ served.version served.exactly)))
     clean served

@@ -3,6 +3,7 @@ use Rattle.sqlite.specs.State.{HasCleanDisk}
 use Rattle.sqlite.specs.Held.{state}
 use Rattle.sqlite_trees.specs.View.{doubt}
 use Rattle.store_tables.specs.Over.{HoldsClubAmong, Neighbours}
+use Rattle.store_tables.specs.declared.names.Version.TheVariants.{Current}
 use Rattle.club_rows.specs.Club.{ClubState, IsClub, tables}
 use Rattle.store.proofs.RunLemmas.{Served, first_of}
 use Rattle.store.proofs.club.Club.run.Given as goal
@@ -14,5 +15,5 @@ invariant-loop-request g l =
     × (doubt (state g.S.Store l.fn.self.connection).is_clean ≤ doubt (state g.S.Store l.self.connection).is_clean)
     × (length l.outcomes.items ≡ l.request-index)
     × (HasCleanDisk (state g.S.Store l.self.connection) → (them : Neighbours) (s : ClubState) → IsClub s
-    → HoldsClubAmong them (tables s) (state g.S.Store l.fn.self.connection) →
+    → them.version ≡ Current → HoldsClubAmong them (tables s) (state g.S.Store l.fn.self.connection) →
     Served them s (first_of l.requests l.request-index) l.outcomes.items (state g.S.Store l.self.connection))

@@ -8,19 +8,19 @@ use Rattle.store.proofs.HistoryLemmas.{holds_beside, opens_beside, opens_led, op
 use Rattle.store.proofs.club.sessions.resume.Goals as goal
 
 pub returns-clause-history : goal.returns-clause-history
-returns-clause-history g c clean opens live from version them sessions led db left =
+returns-clause-history g c clean opens live from version them sessions current led db left =
     let before : HasCleanDisk (state g.S.Store c.in-Ok.club.connection) =
     omega (arith, c.session-run.ensures.clean, clean) in
-    let (is, at) = opens_taken _ opens live (g.met.S.Store.settled c.args.conn.store) led
+    let (is, at) = opens_taken _ opens live (g.met.S.Store.settled c.args.conn.store) current led
     (λ known. (c.in-Ok.ensures.unchanged before known).0) (c.in-Ok.ensures.kept.kept refl before) in
     subst (λ v. IsReachable from v them (sessions ++ session_of c.args.requests.now c.session-run.result ∷ []) db)
     (sym is) (c.session-run.ensures.history clean c.in-Ok.ensures.ready from them sessions at db left)
 
 pub returns-clause-stands : goal.returns-clause-stands
-returns-clause-stands g c clean opens live none from version them sessions led =
+returns-clause-stands g c clean opens live none from version them sessions current led =
     let before : HasCleanDisk (state g.S.Store c.in-Ok.club.connection) =
     omega (arith, c.session-run.ensures.clean, clean) in
-    let (is, at) = opens_taken _ opens live (g.met.S.Store.settled c.args.conn.store) led
+    let (is, at) = opens_taken _ opens live (g.met.S.Store.settled c.args.conn.store) current led
     (λ known. (c.in-Ok.ensures.unchanged before known).0) (c.in-Ok.ensures.kept.kept refl before) in
     (is, c.session-run.ensures.stands clean none from them sessions at)
 
@@ -28,7 +28,7 @@ pub returns-clause-outcomes : goal.returns-clause-outcomes
 returns-clause-outcomes g c clean opens live s is_club left =
     let before : HasCleanDisk (state g.S.Store c.in-Ok.club.connection) =
     omega (arith, c.session-run.ensures.clean, clean) in
-    c.session-run.ensures.outcomes clean left.them s is_club
+    c.session-run.ensures.outcomes clean left.them s is_club left.version
     (still_beside _ _ (c.in-Ok.ensures.kept.kept refl before) left.them (tables s)
     (opens_beside _ opens live (g.met.S.Store.settled c.args.conn.store) left.them _ left.leaves))
 
@@ -36,7 +36,7 @@ pub returns-in-Err-clause-accepts_sound : goal.returns-in-Err-clause-accepts_sou
 returns-in-Err-clause-accepts_sound g c clean opens live s is_club left =
     let found =
     opens_beside _ opens live (g.met.S.Store.settled c.args.conn.store) left.them (tables s) left.leaves in
-    c.in-Err.ensures.accepts_sound clean s is_club (holds_beside left.them _ _ found)
+    c.in-Err.ensures.accepts_sound clean s is_club (holds_beside left.them _ _ left.version found)
     (rw found.exactly.now.schema left.shape)
 
 pub returns-in-Err-clause-kept : goal.returns-in-Err-clause-kept
