@@ -26,7 +26,7 @@ LINES = [
     ("club --j", ["--json"], "`--json` is completed"),
     ("club --now 5 our", ["ourclub.db"], "the value of an option is not taken for the file"),
     ("club ourclub.db ver", ["verify"], "a command is completed"),
-    ("club --json ourclub.db sh", ["show"], "a command is completed behind `--json`"),
+    ("club --json ourclub.db ch", ["challenges"], "a command is completed behind `--json`"),
     ("club ourclub.db event", ["event", "events"], "two commands are offered"),
     ("club ourclub.db games --o", ["--overdue"], "an option of a command is completed"),
     ("club ourclub.db event autumn ", ["draughts", "shogi"], "the values of an argument are offered"),

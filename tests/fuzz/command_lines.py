@@ -20,9 +20,9 @@ KINDS = {  # the kinds of each command's words
     "seat": ("name", "name", "name", "name"), "import-pdn": ("name", "name", "name", "name", "record"),
     "import-csa": ("name", "name", "name", "name", "record"), "move": ("number", "number", "move"), "sweep": (),
     "legal": ("number",), "export": ("number",), "table": ("name",), "verify": (), "upgrade": (),
-    "members": (), "events": (), "games": (),  # options come after the last
+    "members": (), "events": (), "challenges": (), "games": (),  # options come after the last
 }
-JSON_COMMANDS = "legal",  # of these; the model has no text of `show`
+JSON_COMMANDS = "legal", "members", "events", "challenges", "games"
 POOLS = {
     "name": ("anna", "bert", "cara", "dora", "autumn", "fuji", "winter", "g1", "g2", "g3", "a", "a" * 24, "a" * 25,
              "a.b_c-d", "", "an na", "\u00e4", "anna\n", "Anna", "a" * 300, "a/b", "%", "'", "a\tb", "\udcff", "0",
@@ -146,7 +146,7 @@ def changed(chance, words):
 
 def moments(chance, club, command):
     """The words of the timestamp, mostly that of before or a little later; it may be missing from a query."""
-    if command in ("verify", "legal", "export", "table", "members", "events") and chance.random() < 0.2:
+    if command in ("verify", "legal", "export", "table", "members", "events", "challenges") and chance.random() < 0.2:
         return []
     if command == "games" and chance.random() < 0.5:
         return ["--now", str(chance.choice(club.games).deadline() + chance.choice((-1, 0, 1)))]
@@ -255,7 +255,7 @@ def printed(club, order, standard_input):
     acts = {"member": club.add_member, "event": club.add_event, "seat": club.add_seat, "move": club.do_officers_move,
             "sweep": club.do_sweep, "legal": club.do_list, "export": club.do_export, "table": club.do_table,
             "verify": club.do_verify, "upgrade": club.do_upgrade, "members": club.do_members,
-            "events": club.do_events, "games": club.do_games}
+            "events": club.do_events, "challenges": club.do_challenges, "games": club.do_games}
     if command.startswith("import-"):
         text = record_of(values[-1], standard_input)
         if text is None:
@@ -264,7 +264,7 @@ def printed(club, order, standard_input):
     if command == "init":
         return 3, "", "store 70 Foreign\n"
     try:
-        return 0, club.json_of(command, *values) if is_json else acts.get(command, club.add_record)(*values), ""
+        return 0, club.json_of(command, values) if is_json else acts.get(command, club.add_record)(*values), ""
     except Refused as refusing:
         return 1, "", told_refusal(refusing)
 

@@ -340,10 +340,14 @@ class Club:
                   for it in self.events.values()]
         return {"events": events, "members": [it for it in self.keys.values() if it != member]}
 
-    def do_me(self, member):
+    def challenges_in_order(self):
+        """The challengers' names and the numbers of all challenges, by the challenger's id and by the number."""
         ids = {name: at for at, name in enumerate(self.keys.values())}
+        return sorted(self.challenges, key=lambda it: (ids[it[0]], it[1]))
+
+    def do_me(self, member):
         games = [it.mine() for it in self.games if member in it.players and not it.end]
-        challenges = [self.challenge_told(*it) for it in sorted(self.challenges, key=lambda it: (ids[it[0]], it[1]))]
+        challenges = [self.challenge_told(*it) for it in self.challenges_in_order()]
         mine = [it for it in challenges if it["state"] in ("open", "accepted") and member == it["from"]]
         count, received, listed = collections.Counter(), 0, []
         for it in challenges:

@@ -36,6 +36,13 @@ def game_line(game):
     return " ".join(map(str, parts)) + "\n"
 
 
+def game_object(game):
+    """A game in the JSON of a list: that of the list of its event without the round, and its event, key and kind."""
+    found = game.in_event() | {"event": game.event["name"], "key": game.key, "kind": game.event["game"]}
+    del found["round"]
+    return found
+
+
 class OfficersClub(Club):
     """A club with the timestamp of the next command; each command returns what is printed, or is refused."""
 
@@ -153,10 +160,6 @@ class OfficersClub(Club):
     def do_list(self, number):
         return "".join(f"{move}\n" for move in self.game_of(number).legal()["moves"])
 
-    def json_of(self, command, number):
-        """The answer to `legal` or `show` with `--json`."""
-        return to_json(self.do_legal(None, number) if command == "legal" else self.do_page(None, number))
-
     def do_export(self, number):
         return record_of(self.game_of(number))
 
@@ -173,10 +176,46 @@ class OfficersClub(Club):
             lines.append(f"event {number} {' '.join(map(str, event.values()))} {len(ends)} {ends.count(None)}\n")
         return "".join(lines)
 
+    def do_challenges(self):
+        lines = []
+        for member, number in self.challenges_in_order():
+            event, other, is_first = (found := self.challenges[member, number])["asked"]
+            parts = ["challenge", member, number, event, other, "first" if is_first else "second", found["state"],
+                     found["game"] or "="]
+            lines.append(" ".join(map(str, parts)) + "\n")
+        return "".join(lines)
+
     def do_games(self, event, member, flag):
+        return "".join(map(game_line, self.games_listed(event, member, flag)))
+
+    def games_listed(self, event, member, flag):
         games = self.games if event is None else self.games_in(self.event_of(event))
         if member is not None and member not in self.keys.values():
             raise Refused(65)
         is_shown = {None: lambda it: True, "--running": lambda it: not it.end,
                     "--overdue": lambda it: not it.end and self.now() > it.deadline()}[flag]
-        return "".join(game_line(it) for it in games if (member is None or member in it.players) and is_shown(it))
+        return [it for it in games if (member is None or member in it.players) and is_shown(it)]
+
+    def json_of(self, command, values):
+        """The answer to a query with `--json`."""
+        if command == "games":
+            return to_json({"games": [game_object(it) for it in self.games_listed(*values)]})
+        if command in ("legal", "show"):
+            return to_json(self.do_legal(None, *values) if command == "legal" else self.do_page(None, *values))
+        return to_json({command: {"members": self.member_objects, "events": self.event_objects,
+                                  "challenges": self.challenge_objects}[command]()})
+
+    def member_objects(self):
+        return [*self.keys.values()]
+
+    def event_objects(self):
+        found = []
+        for number, event in enumerate(self.events.values(), 1):
+            ends = [it.end for it in self.games_in(event)]
+            found.append({"budget": event["budget"], "event": event["name"], "game": event["game"],
+                          "games": len(ends), "id": number, "increment": event["increment"],
+                          "running": ends.count(None)})
+        return found
+
+    def challenge_objects(self):
+        return [self.challenge_told(*it) for it in self.challenges_in_order()]

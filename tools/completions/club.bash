@@ -26,7 +26,7 @@ _club() {
     elif [[ ! $file ]]; then
         _club_files
     elif [[ ! $command ]]; then
-        mapfile -t COMPREPLY < <(compgen -W 'init member event seat import-pdn import-csa move sweep batch round-robin legal show export export-event table members events games verify upgrade backup serve' -- "$current")
+        mapfile -t COMPREPLY < <(compgen -W 'init member event seat import-pdn import-csa move sweep batch round-robin legal show export export-event table members events games challenges verify upgrade backup serve' -- "$current")
     elif [[ ${arguments[count]-} == file ]]; then
         _club_files
     elif [[ ${arguments[count]--} != - ]]; then
@@ -54,6 +54,7 @@ _club_command() { # COMMAND: sets its options and the kinds of its arguments
         members) options='-h --help' valued='' arguments=() ;;
         events) options='-h --help' valued='' arguments=() ;;
         games) options='--event --member --running --overdue -h --help' valued='--event --member' arguments=() ;;
+        challenges) options='-h --help' valued='' arguments=() ;;
         verify) options='-h --help' valued='' arguments=() ;;
         upgrade) options='-h --help' valued='' arguments=() ;;
         backup) options='-h --help' valued='' arguments=('file') ;;

@@ -26,7 +26,7 @@ end
 complete -c club -f
 complete -c club -n '__club_is_at 0' -F
 complete -c club -n '__club_is_at 0' -l explain -d 'Says on a second line what a refusal or a fault means, and what can be done'
-complete -c club -n '__club_is_at 0' -l json -d 'Prints the answer of \'legal\' or \'show\' as one JSON document'
+complete -c club -n '__club_is_at 0' -l json -d 'Prints the answer of legal, show, members, events, games or challenges as one JSON document'
 complete -c club -n '__club_is_at 0' -l now -x -d 'The moment that counts, in Unix seconds, in place of the machine\'s clock. One accepted command at a mistyped moment raises the club\'s clock for good'
 complete -c club -n '__club_is_at 0' -s h -l help -d 'Print help'
 complete -c club -n '__club_is_at 0' -s V -l version -d 'Print version'
@@ -78,6 +78,8 @@ complete -c club -n '__club_is_in games' -l member -x -d 'Only games of this mem
 complete -c club -n '__club_is_in games' -l running -d 'Only games that have not ended'
 complete -c club -n '__club_is_in games' -l overdue -d 'Only games that \'sweep\' would end: the side to move has used up its time'
 complete -c club -n '__club_is_in games' -s h -l help -d 'Print help'
+complete -c club -n '__club_is_at 1' -a challenges -d 'Lists the challenges, a line each: who challenges whom, and what came of it'
+complete -c club -n '__club_is_in challenges' -s h -l help -d 'Print help'
 complete -c club -n '__club_is_at 1' -a verify -d 'Reads and replays the whole file, and says that it is sound, or which table is damaged'
 complete -c club -n '__club_is_in verify' -s h -l help -d 'Print help'
 complete -c club -n '__club_is_at 1' -a upgrade -d 'Carries a file of schema 1 over to schema 2, which has the rules of events; copy both files first'

@@ -233,10 +233,12 @@ with_lists_app app =
     with_sub
     (with_sub
     (with_sub
+    (with_sub
     (with_sub app (of_event_app (codes "table")))
     (new_app (codes "members")))
     (new_app (codes "events")))
-    games_app
+    games_app)
+    (new_app (codes "challenges"))
 
 -- adds the subcommands on the whole file and the server
 abbrev pub with_files_app : App → App

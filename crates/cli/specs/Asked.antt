@@ -21,8 +21,10 @@ use Rattle.cli.specs.declared.words.Task.{Task}
 use Rattle.club_requests.specs.declared.questions.Listing.{Listing}
 use Rattle.club_requests.specs.declared.questions.Question.{Question}
 use Rattle.club_requests.specs.declared.questions.Question.TheVariants.{LegalMoves, CrossTable, Record, Members}
-use Rattle.club_requests.specs.declared.questions.Question.TheVariants.{Events, Games, Board}
+use Rattle.club_requests.specs.declared.questions.Question.TheVariants.{Events, Games, Board, Challenges}
 use Rattle.club_requests.specs.declared.questions.Question.TheVariants.{EventRecords, GamePage, LegalMovesJson}
+use Rattle.club_requests.specs.declared.questions.Question.TheVariants.{MembersJson, EventsJson, GamesJson}
+use Rattle.club_requests.specs.declared.questions.Question.TheVariants.{ChallengesJson}
 use Rattle.club_requests.specs.declared.questions.GameFilter.{GameFilter}
 use Rattle.club_requests.specs.declared.questions.GameFilter.TheVariants.{All, Running, Overdue}
 use Rattle.cli.specs.declared.words.Task.TheVariants.{Init, Request, Ask, Upgrade, Verify, Backup, Batch}
@@ -141,6 +143,7 @@ AsksQuestion name found (Record game) = (name ≡ codes "export") × IsNumberIn 
 AsksQuestion name found Members = name ≡ codes "members"
 AsksQuestion name found Events = name ≡ codes "events"
 AsksQuestion name found (Games listing) = (name ≡ codes "games") × AreListed found listing
+AsksQuestion name found Challenges = name ≡ codes "challenges"
 AsksQuestion name found (Board game letters) = (name ≡ codes "show") × IsNumberIn found (codes "GAME") 0 game
     × IsFlagIn found (codes "LETTERS") letters
 AsksQuestion name found (EventRecords event) = (name ≡ codes "export-event")
@@ -151,6 +154,10 @@ AsksQuestion name found _ = ⊥
 abbrev pub AsksJsonQuestion : List ℕ → Found → Question → Type 0
 AsksJsonQuestion name found (LegalMovesJson game) = (name ≡ codes "legal") × IsNumberIn found (codes "GAME") 0 game
 AsksJsonQuestion name found (GamePage game) = (name ≡ codes "show") × IsNumberIn found (codes "GAME") 0 game
+AsksJsonQuestion name found MembersJson = name ≡ codes "members"
+AsksJsonQuestion name found EventsJson = name ≡ codes "events"
+AsksJsonQuestion name found (GamesJson listing) = (name ≡ codes "games") × AreListed found listing
+AsksJsonQuestion name found ChallengesJson = name ≡ codes "challenges"
 AsksJsonQuestion name found _ = ⊥
 
 -- the subcommand with these arguments is this operation; the commands of a batch are read later
@@ -247,11 +254,13 @@ command_names =
 abbrev pub task_names : List (List ℕ)
 task_names =
     codes "init" ∷ codes "legal" ∷ codes "export" ∷ codes "show" ∷ codes "export-event" ∷ codes "table"
-    ∷ codes "members" ∷ codes "events" ∷ codes "games" ∷ codes "verify" ∷ codes "upgrade" ∷ codes "backup" ∷ []
+    ∷ codes "members" ∷ codes "events" ∷ codes "games" ∷ codes "challenges" ∷ codes "verify" ∷ codes "upgrade"
+    ∷ codes "backup" ∷ []
 
 -- names of the operations whose answers are JSON with `--json`
 abbrev pub json_names : List (List ℕ)
-json_names = codes "legal" ∷ codes "show" ∷ []
+json_names =
+    codes "legal" ∷ codes "show" ∷ codes "members" ∷ codes "events" ∷ codes "games" ∷ codes "challenges" ∷ []
 
 -- names of the subcommands that are not a single operation
 abbrev pub other_names : List (List ℕ)
@@ -296,7 +305,7 @@ HasNoTask name found = (IsOther task_names name × HasNoCommand name found)
 
 -- the subcommand is no operation whose answer is JSON with `--json`
 abbrev pub HasNoJsonTask : List ℕ → Found → Type 0
-HasNoJsonTask name found = IsOther json_names name
+HasNoJsonTask name found = IsOther json_names name ⊎ ((name ≡ codes "games") × AsksForBoth found)
 
 -- the arguments are not valid, by whether `--json` is given
 abbrev pub HasNoOrderBy : (is_json : Bool) → List ℕ → Found → Type 0

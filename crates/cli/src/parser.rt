@@ -460,7 +460,7 @@ fn program<'a>(alloc: Global) -> Result<clap::Command<'a>, AllocError>
             alloc,
             "JSON",
             "json",
-            "Prints the answer of 'legal' or 'show' as one JSON document",
+            "Prints the answer of legal, show, members, events, games or challenges as one JSON document",
         ),
     )?;
     let words = with_word(words, now_option(alloc))?;
@@ -556,8 +556,14 @@ fn with_lists<'a>(
     );
     let program = add_subcommand(program, table)?;
     let program = add_subcommand(program, Ok(members))?;
+    let challenges = subcommand(
+        alloc,
+        "challenges",
+        "Lists the challenges, a line each: who challenges whom, and what came of it",
+    );
     let program = add_subcommand(program, Ok(events))?;
-    add_subcommand(program, games_words(alloc))
+    let program = add_subcommand(program, games_words(alloc))?;
+    add_subcommand(program, Ok(challenges))
 }
 
 // Adds the subcommands on the whole file and the server.

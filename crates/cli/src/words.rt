@@ -404,6 +404,7 @@ fn task_of(alloc: Global, name: &str, words: &ArgMatches<'_>) -> Result<Task, Ba
         "members" => Ok(Task::Ask(Question::Members)),
         "events" => Ok(Task::Ask(Question::Events)),
         "games" => games_of(alloc, words),
+        "challenges" => Ok(Task::Ask(Question::Challenges)),
         "verify" => Ok(Task::Verify),
         "upgrade" => Ok(Task::Upgrade),
         "backup" => Ok(Task::Backup(text(alloc, words, "FILE2")?)),
@@ -421,6 +422,16 @@ fn no_json(alloc: Global, name: &str) -> BadWords
     }
 }
 
+fn games_json_of(alloc: Global, words: &ArgMatches<'_>) -> Result<Task, BadWords>
+    ensures ok { IfOk result (AsksJsonTask (codes "games") (found_of words.now)) }
+    ensures err { IfErr result (IsParserErrorFor (AsksForBoth (found_of words.now))) }
+{
+    match listing_of(alloc, words) {
+        Ok(listing) => Ok(Task::Ask(Question::GamesJson(listing))),
+        Err(told) => Err(told),
+    }
+}
+
 // The operation of the subcommand `name` with `--json`.
 fn json_task_of(alloc: Global, name: &str, words: &ArgMatches<'_>) -> Result<Task, BadWords>
     ensures ok { IfOk result (AsksJsonTask name.now (found_of words.now)) }
@@ -429,6 +440,10 @@ fn json_task_of(alloc: Global, name: &str, words: &ArgMatches<'_>) -> Result<Tas
     match name {
         "legal" => Ok(Task::Ask(Question::LegalMovesJson(number_of(words, "GAME")))),
         "show" => Ok(Task::Ask(Question::GamePage(number_of(words, "GAME")))),
+        "members" => Ok(Task::Ask(Question::MembersJson)),
+        "events" => Ok(Task::Ask(Question::EventsJson)),
+        "games" => games_json_of(alloc, words),
+        "challenges" => Ok(Task::Ask(Question::ChallengesJson)),
         _ => Err(no_json(alloc, name)),
     }
 }

@@ -1,3 +1,4 @@
+mod AllChallenges
 mod AnalysisLemmas
 mod BoardLemmas
 mod CallLemmas

@@ -18,10 +18,14 @@ use Rattle.club_requests.specs.declared.questions.Question.TheVariants.{MyGames,
 use Rattle.club_requests.specs.declared.questions.Question.TheVariants.{EventGames, EventRecords, EventStandings}
 use Rattle.club_requests.specs.declared.questions.Question.TheVariants.{GameClock, GameJson}
 use Rattle.club_requests.specs.declared.questions.Question.TheVariants.{Board, GamePage, LegalMovesJson, Analysis}
+use Rattle.club_requests.specs.declared.questions.Question.TheVariants.{Challenges, ChallengesJson}
+use Rattle.club_requests.specs.declared.questions.Question.TheVariants.{MembersJson, EventsJson, GamesJson}
+use Rattle.club_lists.specs.ChallengeLines.{challenge_lines}
+use Rattle.club_lists.specs.ClubJson.{challenges_json, events_json, games_json, members_json}
 use Rattle.club_lists.specs.Lines.{member_lines, event_lines, AreGameLines}
-use Rattle.club_lists.specs.Listing.{listing_refusal}
+use Rattle.club_lists.specs.Listing.{listed_games, listing_refusal}
 use Rattle.club_lists.specs.Clock.{clock_text}
-use Rattle.club_lists.specs.GameSummary.{Running}
+use Rattle.club_lists.specs.GameSummary.{GameSummary, Running}
 use Rattle.club_lists.specs.Ended.{ended_games_json}
 use Rattle.club_lists.specs.Shows.{event_games_text, challenge_choices_json, my_games_json, member_name_by_key}
 use Rattle.club_core.specs.declared.challenges.Challenge.{Challenge}
@@ -75,15 +79,46 @@ IsMembersText s text = text ≡ member_lines s.members
 abbrev pub IsEventsText : ClubState → List ℕ → Type 0
 IsEventsText s text = text ≡ event_lines (game_summaries s) s.events
 
--- the games in the listing, if the member and event that it names exist
+-- the games of the club that are listed at this timestamp, in their order
+abbrev pub games_listed : ClubState → ℕ → Listing → List GameSummary
+games_listed s moment listing =
+    listed_games s.members s.events listing (effective_moment s moment) (game_summaries s)
+
+-- the lines of the listed games, if the member and event that the listing names exist
 abbrev pub IsGamesText : ClubState → ℕ → Listing → List ℕ → Type 0
 IsGamesText s moment listing text =
     (listing_refusal s.members s.events listing ≡ None)
-    × AreGameLines s.members s.events listing (effective_moment s moment) (game_summaries s) text
+    × AreGameLines s.members s.events (games_listed s moment listing) text
 
 -- the list of games is refused, because its event or its member does not exist
 abbrev pub IsNoList : ClubState → Listing → Refusal → Type 0
 IsNoList s listing refusal = listing_refusal s.members s.events listing ≡ Some refusal
+
+-- the lines of all challenges, in order
+abbrev pub IsChallengesText : ClubState → List ℕ → Type 0
+IsChallengesText s text = (challenges : List Challenge) × AreChallengesOf s challenges
+    × (text ≡ challenge_lines s.members s.events challenges)
+
+-- ---- the same lists as JSON
+
+-- the names of all members
+abbrev pub IsMembersJson : ClubState → List ℕ → Type 0
+IsMembersJson s text = text ≡ members_json s.members
+
+-- all events, with the numbers of their games
+abbrev pub IsEventsJson : ClubState → List ℕ → Type 0
+IsEventsJson s text = text ≡ events_json (game_summaries s) s.events
+
+-- the listed games, if the member and event that the listing names exist
+abbrev pub IsGamesJson : ClubState → ℕ → Listing → List ℕ → Type 0
+IsGamesJson s moment listing text =
+    (listing_refusal s.members s.events listing ≡ None)
+    × (text ≡ games_json s.members s.events (games_listed s moment listing))
+
+-- all challenges, in order
+abbrev pub IsChallengesJson : ClubState → List ℕ → Type 0
+IsChallengesJson s text = (challenges : List Challenge) × AreChallengesOf s challenges
+    × (text ≡ challenges_json s.members s.events challenges)
 
 -- ---- the JSON of a member's games
 
@@ -149,6 +184,11 @@ IsText s moment (Record game) text = IsRecordAt s game text
 IsText s moment Members text = IsMembersText s text
 IsText s moment Events text = IsEventsText s text
 IsText s moment (Games listing) text = IsGamesText s moment listing text
+IsText s moment Challenges text = IsChallengesText s text
+IsText s moment MembersJson text = IsMembersJson s text
+IsText s moment EventsJson text = IsEventsJson s text
+IsText s moment (GamesJson listing) text = IsGamesJson s moment listing text
+IsText s moment ChallengesJson text = IsChallengesJson s text
 IsText s moment (MyGames key) text = IsMyGamesText s moment (string_bytes key) text
 IsText s moment (EndedGames key) text = IsEndedGamesText s moment (string_bytes key) text
 IsText s moment (ChallengeChoices key) text = IsChallengeChoicesText s (string_bytes key) text
@@ -170,6 +210,11 @@ IsRefused s (Record game) refusal = IsNoGame s game refusal
 IsRefused s Members refusal = ⊥
 IsRefused s Events refusal = ⊥
 IsRefused s (Games listing) refusal = IsNoList s listing refusal
+IsRefused s Challenges refusal = ⊥
+IsRefused s MembersJson refusal = ⊥
+IsRefused s EventsJson refusal = ⊥
+IsRefused s (GamesJson listing) refusal = IsNoList s listing refusal
+IsRefused s ChallengesJson refusal = ⊥
 IsRefused s (MyGames key) refusal = IsNoKey s (string_bytes key) refusal
 IsRefused s (EndedGames key) refusal = IsNoKey s (string_bytes key) refusal
 IsRefused s (ChallengeChoices key) refusal = IsNoKey s (string_bytes key) refusal

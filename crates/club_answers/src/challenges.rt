@@ -1,4 +1,4 @@
-//! Reads the challenges of a member.
+//! Reads the challenges of the club and of a member.
 
 ghost use Rattle.std.specs.Prelude.{◌≡◌, ◌++◌, true, pos, map, IfOk, is_ok};
 ghost use Rattle.std.specs.List.{AllByRecursion};
@@ -11,7 +11,7 @@ ghost use Rattle.store_tables.specs.Reading.{Reads};
 ghost use Rattle.club_rows.specs.Club.{ClubState, tables};
 ghost use Rattle.club_rows.specs.Tables.{challenge_row};
 ghost use Rattle.store_tables.specs.internal.Cells.{challenge_cells};
-ghost use Rattle.club_answers.specs.Challenges.{ComesBefore};
+ghost use Rattle.club_answers.specs.Challenges.{AreChallengesOf, ComesBefore};
 ghost use Rattle.club_answers.specs.internal.Challenges.{AreChallengesWith};
 
 use club_core::Challenge;
@@ -19,7 +19,7 @@ use club_reads::LookupFault;
 use club_rows::challenge_of;
 use sqlite::{Alter, Connection};
 use std::alloc::{AllocError, Global};
-use store_sql::{ChallengesTo, find_by_column, find_by_first};
+use store_sql::{ChallengesTo, find_by_column, find_by_first, list};
 use store_tables::ChallengeRow;
 
 // Order by challenger, then by number.
@@ -90,6 +90,19 @@ fn merge(
     rows.append(&mut received)?;
     rows.sort_unstable_by_key(|row| (row.member, row.number));
     Ok(rows)
+}
+
+/// All challenges of the club, sorted by challenger, then by number.
+pub(crate) fn all_challenges<S: Alter>(
+    alloc: Global,
+    conn: &mut Connection<S>,
+) -> Result<Vec<Challenge>, LookupFault>
+    ensures reads { Reads (is_ok result) (state S.Store conn.old) (state S.Store conn.new) }
+    ensures found { HasCleanDisk (state S.Store conn.new) → IfOk result (λ found. (s : ClubState) →
+        HasRows (tables s) (state S.Store conn.old) → AreChallengesOf s found.items) }
+{
+    let rows = list::<ChallengeRow, S>(alloc, conn)?;
+    challenges_in(alloc, &rows)
 }
 
 /// The challenges by and to the member with this id, sorted by challenger, then by number.

@@ -9,18 +9,19 @@ ghost use Rattle.club_rows.specs.Club.{ClubState, IsClub, tables};
 ghost use Rattle.club_requests.specs.declared.questions.Question.TheVariants as question;
 ghost use Rattle.club_answers.specs.internal.Found.{IsFound, IsFoundAs};
 ghost use Rattle.club_answers.specs.AnswerTexts.{join_lines, IsLegalText, IsNoGame, IsTableText, IsNoEvent};
-ghost use Rattle.club_answers.specs.AnswerTexts.{IsMembersText};
+ghost use Rattle.club_answers.specs.AnswerTexts.{IsMembersJson, IsMembersText};
 
 use crate::analyses::analysis;
 use crate::boards::board;
 use crate::bodies::{game_body, moves_body};
+use crate::challenge_lists::{challenge_lines, challenge_objects};
 use crate::lists::of_lists;
 use crate::member_answers::mine;
 use crate::pages::{clock, page};
 use crate::standings::standings;
 use crate::{cross_table_lines, legal_of};
 use clocks::Moment;
-use club_lists::members_text;
+use club_lists::{members_json, members_text};
 use club_reads::{LookupFault, all_members};
 use club_requests::{Question, Refusal};
 use club_rules::GameKind;
@@ -94,6 +95,16 @@ fn members<S: Alter>(alloc: Global, conn: &mut Connection<S>) -> Result<Shown, L
     Ok(Shown::Text(text))
 }
 
+fn member_names<S: Alter>(alloc: Global, conn: &mut Connection<S>) -> Result<Shown, LookupFault>
+    ensures reads { Reads (is_ok result) (state S.Store conn.old) (state S.Store conn.new) }
+    ensures found { HasCleanDisk (state S.Store conn.new) → IfOk result (λ found. (s : ClubState) → IsClub s →
+        HasRows (tables s) (state S.Store conn.old) → IsFoundAs (IsMembersJson s) (λ refusal. ⊥) found) }
+{
+    let members = all_members(alloc, conn)?;
+    let text = members_json(alloc, &members)?;
+    Ok(Shown::Text(text))
+}
+
 /// Finds the answer to a query at this timestamp.
 pub(crate) fn read_answer<S: Alter>(
     alloc: Global,
@@ -112,6 +123,11 @@ pub(crate) fn read_answer<S: Alter>(
         Question::Members => members(alloc, conn),
         Question::Events => of_lists(alloc, conn, question, moment),
         Question::Games(_) => of_lists(alloc, conn, question, moment),
+        Question::Challenges => challenge_lines(alloc, conn),
+        Question::MembersJson => member_names(alloc, conn),
+        Question::EventsJson => of_lists(alloc, conn, question, moment),
+        Question::GamesJson(_) => of_lists(alloc, conn, question, moment),
+        Question::ChallengesJson => challenge_objects(alloc, conn),
         Question::MyGames(key) => mine(alloc, conn, key.as_str(), moment),
         Question::EndedGames(_) => of_lists(alloc, conn, question, moment),
         Question::ChallengeChoices(_) => of_lists(alloc, conn, question, moment),

@@ -20,6 +20,7 @@ mod analyses;
 mod answers;
 mod boards;
 mod bodies;
+mod challenge_lists;
 mod challenges;
 mod cross_table;
 mod exported;

@@ -9,7 +9,7 @@ ghost use Rattle.club_rows.specs.Club.{ClubState, IsClub, tables};
 ghost use Rattle.club_requests.specs.declared.questions.Question.TheVariants as question;
 ghost use Rattle.club_answers.specs.internal.Found.{IsFound, IsFoundAs, IsReadOf};
 ghost use Rattle.club_answers.specs.AnswerTexts.{IsEventGamesText, IsEventsText, IsGamesText, IsChallengeChoicesText};
-ghost use Rattle.club_answers.specs.AnswerTexts.{IsEndedGamesText};
+ghost use Rattle.club_answers.specs.AnswerTexts.{IsEndedGamesText, IsEventsJson, IsGamesJson};
 ghost use Rattle.club_answers.specs.AnswerTexts.{IsNoEventNamed, IsNoKey, IsNoList};
 
 use crate::found::Shown;
@@ -17,7 +17,8 @@ use crate::read::{ClubRead, read_club};
 use clocks::Moment;
 use club_lists::{
     challenge_choices_json, ended_games_json, event_game_ids, event_games_text, event_kind,
-    events_text, games_text, has_event, listing_refusal, member_name_by_key,
+    events_json, events_text, games_json, games_text, has_event, listing_refusal,
+    member_name_by_key,
 };
 use club_reads::LookupFault;
 use club_requests::{Listing, Question, Refusal};
@@ -41,6 +42,36 @@ fn games(alloc: Global, club: &ClubRead, listing: &Listing) -> Result<Shown, Loo
         Some(refusal) => Ok(Shown::Refused(refusal)),
         None => {
             let text = games_text(
+                alloc,
+                listing,
+                &club.members,
+                &club.events,
+                &club.games,
+                club.moment,
+            )?;
+            Ok(Shown::Text(text))
+        }
+    }
+}
+
+// The events, as JSON.
+fn event_objects(alloc: Global, club: &ClubRead) -> Result<Shown, LookupFault>
+    ensures { IfOk result (λ found. (s : ClubState) (moment : ℕ) → IsReadOf s moment club.now →
+        IsFoundAs (IsEventsJson s) (λ refusal. ⊥) found) }
+{
+    let text = events_json(alloc, &club.events, &club.games)?;
+    Ok(Shown::Text(text))
+}
+
+// The games in this listing, as JSON, or the refusal of the listing.
+fn game_objects(alloc: Global, club: &ClubRead, listing: &Listing) -> Result<Shown, LookupFault>
+    ensures { IfOk result (λ found. (s : ClubState) (moment : ℕ) → IsReadOf s moment club.now →
+        IsFoundAs (IsGamesJson s moment listing.now) (IsNoList s listing.now) found) }
+{
+    match listing_refusal(listing, &club.members, &club.events) {
+        Some(refusal) => Ok(Shown::Refused(refusal)),
+        None => {
+            let text = games_json(
                 alloc,
                 listing,
                 &club.members,
@@ -119,6 +150,8 @@ fn shown_of(alloc: Global, club: &ClubRead, question: &Question) -> Result<Shown
     match question {
         Question::Events => events(alloc, club),
         Question::Games(listing) => games(alloc, club, listing),
+        Question::EventsJson => event_objects(alloc, club),
+        Question::GamesJson(listing) => game_objects(alloc, club, listing),
         Question::EndedGames(key) => ended_games(alloc, club, key.as_str()),
         Question::ChallengeChoices(key) => inviting(alloc, club, key.as_str()),
         Question::EventGames(name) => event_games(alloc, club, name.as_str()),

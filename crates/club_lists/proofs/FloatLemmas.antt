@@ -13,6 +13,8 @@ use Rattle.club_rules.specs.declared.names.EndName.{EndName}
 use Rattle.club_lists.specs.Analysis.{analysis_data}
 use Rattle.club_lists.specs.Bodies.{game_data, moves_data}
 use Rattle.club_lists.specs.Clock.{clock_data, deadline_within, running_turn, while_running}
+use Rattle.club_lists.specs.ClubJson.{challenges_data, event_entries_from, event_entry_data, events_data}
+use Rattle.club_lists.specs.ClubJson.{game_entry_data, games_data, members_data}
 use Rattle.club_lists.specs.Ended.{end_moment, ended_data, ended_games_data, is_own_ended, most_ended}
 use Rattle.club_lists.specs.GameShown.{GameShown, end_name}
 use Rattle.club_lists.specs.GameSummary.{GameSummary, Running, end_of, result_of}
@@ -139,6 +141,45 @@ ended_games_float members events name moment games =
     rw (items_float (ended_data members events) (ended_float members events)
     (newest most_ended (is_own_ended members name) games)) refl
 
+-- ---- lists of the club
+
+pub members_float : (members : List Member) → has_float (members_data members) ≡ false
+unfolding members_data
+members_float members = rw (texts_float (map (λ (m : Member). m.name) members)) refl
+
+event_entry_float : (games : List GameSummary) (id : ℕ) (event : Event)
+    → has_float (event_entry_data games id event) ≡ false
+unfolding event_entry_data
+event_entry_float games id event = refl
+
+event_entries_float : (games : List GameSummary) (id : ℕ) (events : List Event)
+    → items_have_float (items_of (event_entries_from games id events)) ≡ false
+event_entries_float games id [] = refl
+event_entries_float games id (event ∷ events) =
+    rw (event_entry_float games id event, event_entries_float games (suc id) events) refl
+
+pub events_float : (games : List GameSummary) (events : List Event) → has_float (events_data games events) ≡ false
+unfolding events_data
+events_float games events = rw (event_entries_float games 1 events) refl
+
+game_entry_float : (members : List Member) (events : List Event) (told : GameSummary)
+    → has_float (game_entry_data members events told) ≡ false
+unfolding game_entry_data
+game_entry_float members events told =
+    rw (
+      number_float (while_running told (deadline_within told)),
+      text_float (end_of told),
+      text_float told.key,
+      text_float (result_of told),
+      text_float (running_turn members told),
+    ) refl
+
+pub games_float : (members : List Member) (events : List Event) (games : List GameSummary)
+    → has_float (games_data members events games) ≡ false
+unfolding games_data
+games_float members events games =
+    rw (items_float (game_entry_data members events) (game_entry_float members events) games) refl
+
 -- ---- the games of a member
 
 own_game_float : (members : List Member) (events : List Event) (running : Running)
@@ -155,6 +196,12 @@ challenge_float : (members : List Member) (events : List Event) (c : Challenge)
     → has_float (challenge_data members events c) ≡ false
 unfolding challenge_data
 challenge_float members events c = rw (number_float (started c.standing)) refl
+
+pub challenges_float : (members : List Member) (events : List Event) (challenges : List Challenge)
+    → has_float (challenges_data members events challenges) ≡ false
+unfolding challenges_data
+challenges_float members events challenges =
+    rw (items_float (challenge_data members events) (challenge_float members events) challenges) refl
 
 more_float : (members : List Member) (name : List ℕ) (challenges : List Challenge)
     → has_float (more_data members name challenges) ≡ false

@@ -1,7 +1,9 @@
 pub mod Analysis
 pub mod Board
 pub mod Bodies
+pub mod ChallengeLines
 pub mod Clock
+pub mod ClubJson
 pub mod Dates
 pub mod Ended
 pub mod EventRecords

@@ -1,5 +1,5 @@
 -- The lists of a club as lines of text.
-use Rattle.std.specs.Prelude.{◌≡◌, ◌==◌, ◌&&◌, ℕ, suc, not, List, [], ◌∷◌, ◌++◌, codes, decimal, Bool, true, false}
+use Rattle.std.specs.Prelude.{◌≡◌, ◌==◌, ◌&&◌, ℕ, suc, not, List, [], ◌∷◌, ◌++◌, codes, decimal}
 use Rattle.std.specs.Prelude.{Option, Some, None, count_by}
 use Rattle.squares.specs.declared.sides.Side.{Side}
 use Rattle.squares.specs.declared.sides.Side.TheVariants.{First, Second}
@@ -8,9 +8,8 @@ use Rattle.club_rules.specs.declared.names.GameKind.TheVariants.{Draughts, Shogi
 use Rattle.club_core.specs.Events.{Event}
 use Rattle.club_core.specs.Members.{Member}
 use Rattle.club_core.specs.State.{kind_at, place}
-use Rattle.club_requests.specs.declared.questions.Listing.{Listing}
 use Rattle.club_lists.specs.Dates.{IsUntil}
-use Rattle.club_lists.specs.Listing.{event_of, first_name, second_name, is_listed}
+use Rattle.club_lists.specs.Listing.{event_of, first_name, second_name}
 use Rattle.club_lists.specs.GameSummary.{Over, GameSummary, deadline, is_over}
 
 -- the texts of the elements, concatenated; ids count up from this one
@@ -103,14 +102,8 @@ module _ (members : List Member) (events : List Event) where
   IsGameLine told line = (stands : List ℕ) × IsGameState members told told.over stands
       × (line ≡ game_line members events told stands)
 
-  -- the game's line if it passes the filter, otherwise nothing
-  abbrev pub IsPart : Bool → GameSummary → List ℕ → Type 0
-  IsPart true told text = IsGameLine told text
-  IsPart false told text = text ≡ []
-
-  -- lines of the games that pass the filter, in order
-  abbrev pub AreGameLines : Listing → ℕ → List GameSummary → List ℕ → Type 0
-  AreGameLines listing moment [] text = text ≡ []
-  AreGameLines listing moment (told ∷ games) text =
-      (part : List ℕ) × (rest : List ℕ) × IsPart (is_listed members events listing moment told) told part
-      × AreGameLines listing moment games rest × (text ≡ part ++ rest)
+  -- lines of these games, in order
+  abbrev pub AreGameLines : List GameSummary → List ℕ → Type 0
+  AreGameLines [] text = text ≡ []
+  AreGameLines (told ∷ games) text =
+      (line : List ℕ) × (rest : List ℕ) × IsGameLine told line × AreGameLines games rest × (text ≡ line ++ rest)

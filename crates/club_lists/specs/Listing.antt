@@ -1,5 +1,6 @@
 -- The filter of a list of games, and the refusal of a list.
 use Rattle.std.specs.Prelude.{ℕ, Bool, true, false, not, ◌&&◌, ◌||◌, List, [], ◌∷◌, Option, Some, None, string_bytes}
+use Rattle.std.specs.Prelude.{filter}
 use Rattle.std.specs.Option.{option_map}
 use Rattle.std.specs.Str.{bytes_eq}
 use Rattle.std.specs.List.{list_any}
@@ -71,6 +72,10 @@ module _ (members : List Member) (events : List Event) (listing : Listing) where
   is_listed moment told =
       is_asked event_asked (event_of events told)
       && (has_asked members member_asked told && is_which listing.which moment told)
+
+  -- the games that pass the filter at this timestamp, in their order
+  abbrev pub listed_games : ℕ → List GameSummary → List GameSummary
+  listed_games moment games = filter (is_listed moment) games
 
   -- the given event or the given member does not exist
   abbrev pub listing_refusal : Option Refusal

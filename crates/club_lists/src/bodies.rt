@@ -10,7 +10,7 @@ ghost use Rattle.club_lists.specs.internal.ShownViews.{game_view};
 ghost use Rattle.club_lists.specs.Values.{number_data, seconds_pair, text_or_null};
 
 use crate::shown::{GameShown, end_name};
-use crate::values::text_array;
+use crate::values::{text_array, text_or_null};
 use club_core::GameEnd;
 use club_rules::EndName;
 use serde_json::{Value, json};
@@ -55,16 +55,6 @@ fn score_or_null(alloc: Global, score: Option<Score>) -> Result<Value, AllocErro
     }
 }
 
-// The name of the member who offers a draw, or null.
-fn offer_or_null(alloc: Global, offer: &Option<String>) -> Result<Value, AllocError>
-    ensures { IfOk result (λ value. view value ≡ text_or_null (option_map string_bytes offer.now)) }
-{
-    match offer {
-        Some(name) => Value::try_from_str(alloc, name.as_str()),
-        None => Ok(Value::Null),
-    }
-}
-
 #[tactic(auto, using(crate::proofs::ValueLemmas::count_of))]
 fn ply_value(moves: &Vec<String>) -> Value
     ensures { view result ≡ number_data (length (texts_view moves.now.items)) }
@@ -90,7 +80,7 @@ pub(crate) fn game_value(alloc: Global, id: u64, game: &GameShown) -> Result<Val
         "game": id,
         "left": seconds_pair(alloc, game.left_first, game.left_second)?,
         "moves": text_array(alloc, &game.moves)?,
-        "offer": offer_or_null(alloc, &game.offer)?,
+        "offer": text_or_null(alloc, &game.offer)?,
         "ply": ply_value(&game.moves),
         "position": game.position.as_str(),
         "result": score_or_null(alloc, game.result)?,

@@ -10,7 +10,9 @@
 //!   a member and of an event are exactly these texts. Of the challenges to a member at most ten from each challenger
 //!   are listed, and a hundred in all; of those by the member the last hundred.
 //! - `round_of`: the round of a game that a round robin seated, by its key (`keys_tell_rounds`).
-//! - The lines of members, events and games are exactly the bytes that `specs/Lines` gives.
+//! - The lines of members, events, games and challenges are exactly the bytes that `specs/Lines` and
+//!   `specs/ChallengeLines` give. `members_json`, `events_json`, `games_json`, `challenges_json`: their JSON is exactly
+//!   the text that `specs/ClubJson` gives. Both of games list the same games in the same order (`listed_games`).
 //! - A deadline is the last second in which the move is in time, or `never` or null after the last timestamp
 //!   (`specs/Clock`).
 #![tactic(auto)]
@@ -18,7 +20,9 @@
 mod analysis;
 pub mod board;
 mod bodies;
+mod challenge_lines;
 pub mod clock;
+mod club_json;
 pub mod dates;
 pub mod ended;
 pub mod event_records;
@@ -37,7 +41,9 @@ mod values;
 pub use analysis::analysis_text;
 pub use board::{BoardView, board_text};
 pub use bodies::{game_text, moves_text};
+pub use challenge_lines::challenges_text;
 pub use clock::clock_text;
+pub use club_json::{challenges_json, events_json, games_json, members_json};
 pub use ended::ended_games_json;
 pub use event_records::{event_game_ids, event_kind};
 pub use game_entry::{GameEntry, GameOver, RunningGame};

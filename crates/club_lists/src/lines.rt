@@ -9,9 +9,8 @@ ghost use Rattle.club_lists.specs.Lines.{member_lines, game_name, games_of, runn
 ghost use Rattle.club_lists.specs.Lines.{kind_name};
 ghost use Rattle.club_lists.specs.Lines.{event_line, game_tail};
 ghost use Rattle.club_lists.specs.Lines.{event_lines, key_text, player_name, game_line, IsGameState, IsGameLine};
-ghost use Rattle.club_lists.specs.Lines.{IsPart};
 ghost use Rattle.club_lists.specs.Lines.{AreGameLines};
-ghost use Rattle.club_lists.specs.Listing.{is_listed};
+ghost use Rattle.club_lists.specs.Listing.{listed_games};
 ghost use Rattle.club_lists.specs.GameSummary.{deadline, is_over};
 ghost use Rattle.club_lists.specs.internal.SummaryViews.{summary_of, summaries_of};
 
@@ -73,8 +72,8 @@ pub(crate) fn kind_name(events: &[Event], game: &GameEntry) -> &'static str
     game_name(kind_of(events, game.event))
 }
 
-// The number of games of an event.
-fn games_of(games: &[GameEntry], event: usize) -> usize
+/// The number of games of an event.
+pub(crate) fn games_of(games: &[GameEntry], event: usize) -> usize
     ensures { result ≡ games_of event (summaries_of games.now) }
 {
     games
@@ -92,8 +91,8 @@ fn is_running_in(game: &GameEntry, event: usize) -> bool
     !game.is_over()
 }
 
-// The number of running games of an event.
-fn running_of(games: &[GameEntry], event: usize) -> usize
+/// The number of running games of an event.
+pub(crate) fn running_of(games: &[GameEntry], event: usize) -> usize
     ensures { result ≡ running_of event (summaries_of games.now) }
 {
     games
@@ -262,26 +261,6 @@ fn game_line(
     game_text(alloc, members, events, game, stands.as_str())
 }
 
-// The game's line if it passes the filter, otherwise nothing.
-fn part_of(
-    alloc: Global,
-    listing: &Listing,
-    members: &[Member],
-    events: &[Event],
-    game: &GameEntry,
-    moment: Moment,
-) -> Result<String, AllocError>
-    ensures { IfOk result (λ text. IsPart (members_of members.now) (events_of events.now)
-        (is_listed (members_of members.now) (events_of events.now) listing.now moment (summary_of game.now))
-        (summary_of game.now) (string_bytes text)) }
-{
-    if is_listed(listing, members, events, game, moment) {
-        game_line(alloc, members, events, game)
-    } else {
-        Ok(String::new(alloc))
-    }
-}
-
 /// The games that pass the filter at this timestamp, one per line.
 ///
 /// # Errors
@@ -295,13 +274,17 @@ pub fn games_text(
     games: &[GameEntry],
     moment: Moment,
 ) -> Result<String, AllocError>
-    ensures { IfOk result (λ text. AreGameLines (members_of members.now) (events_of events.now) listing.now moment
-        (summaries_of games.now) (string_bytes text)) }
+    ensures { IfOk result (λ text. AreGameLines (members_of members.now) (events_of events.now)
+        (listed_games (members_of members.now) (events_of events.now) listing.now moment (summaries_of games.now))
+        (string_bytes text)) }
 {
     let mut text = String::new(alloc);
     for game in games {
-        let part = part_of(alloc, listing, members, events, game, moment)?;
-        text.push_str(part.as_str())?;
+        if !is_listed(listing, members, events, game, moment) {
+            continue;
+        }
+        let row = game_line(alloc, members, events, game)?;
+        text.push_str(row.as_str())?;
     }
     Ok(text)
 }

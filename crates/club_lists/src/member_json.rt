@@ -22,6 +22,7 @@ use crate::game_entry::{GameEntry, RunningGame};
 use crate::lines::{game_name, kind_name, turn_name};
 use crate::listing::{event_name, member_name};
 use crate::rounds::round_in;
+use crate::values::text_or_null;
 use club_core::{Event, Member};
 use serde_json::{Value, json};
 use squares::Side;
@@ -252,16 +253,6 @@ fn offer_value(alloc: Global, members: &[Member], game: &GameEntry) -> Result<Va
     }
 }
 
-// The text of the last move, or null.
-fn last_value(alloc: Global, last: &Option<String>) -> Result<Value, AllocError>
-    ensures { IfOk result (λ value. view value ≡ text_or_null (option_map string_bytes last.now)) }
-{
-    match last {
-        Some(last) => Value::try_from_str(alloc, last.as_str()),
-        None => Ok(Value::Null),
-    }
-}
-
 // A running game of a member.
 #[tactic(auto, unfolding(crate::specs::Shows::own_game_data))]
 fn own_game_value(
@@ -280,7 +271,7 @@ fn own_game_value(
         "first": member_name(members, game.first),
         "game": game.id,
         "kind": kind_name(events, game),
-        "last": last_value(alloc, &running.last)?,
+        "last": text_or_null(alloc, &running.last)?,
         "offer": offer_value(alloc, members, game)?,
         "ply": game.plies,
         "position": running.position.as_str(),

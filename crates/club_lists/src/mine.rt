@@ -32,8 +32,8 @@ fn started_value(standing: ChallengeState) -> Value
     }
 }
 
-// The name of a challenge's state.
-fn state_text(standing: ChallengeState) -> &'static str
+/// The name of a challenge's state.
+pub(crate) fn state_text(standing: ChallengeState) -> &'static str
     ensures { result.now ≡ state_text standing }
 {
     match standing {
@@ -109,8 +109,8 @@ fn challenge_value(
     })
 }
 
-// The objects of challenges.
-fn challenge_values(
+/// The objects of challenges.
+pub(crate) fn challenge_values(
     alloc: Global,
     members: &[Member],
     events: &[Event],

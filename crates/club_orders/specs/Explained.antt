@@ -3,7 +3,7 @@ use Rattle.std.specs.Prelude.{◌≡◌, ℕ, ◌==◌, List, [], ◌∷◌, ◌
 use Rattle.std.specs.Prelude.{if◌then◌else◌, pos, negsuc, ℤ, codes, decimal}
 use Rattle.std.specs.Io.KnownBytes.{Appends}
 use Rattle.club_requests.specs.declared.questions.Question.{Question}
-use Rattle.club_requests.specs.declared.questions.Question.TheVariants.{Games}
+use Rattle.club_requests.specs.declared.questions.Question.TheVariants.{Games, GamesJson}
 use Rattle.club_requests.specs.declared.requests.Command.{Command}
 use Rattle.club_requests.specs.declared.requests.Request.{Request}
 use Rattle.club_requests.specs.declared.refusals.Refusal.{Refusal}
@@ -43,6 +43,7 @@ games_explained refusal = explanation.Refusal refusal
 -- the explanation of a refused query
 abbrev pub question_explained : Question → Refusal → Explanation
 question_explained (Games listing) refusal = games_explained refusal
+question_explained (GamesJson listing) refusal = games_explained refusal
 question_explained question refusal = explanation.Refusal refusal
 
 -- a query of a batch asks for a member of a round robin, who does not exist

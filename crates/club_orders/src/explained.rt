@@ -27,6 +27,9 @@ fn question_explained(question: &Question, refusal: Refusal) -> Explanation
         Question::Games(_) if refusal == Refusal::BadValue => {
             Explanation::Value(WrongValue::ListedMember)
         }
+        Question::GamesJson(_) if refusal == Refusal::BadValue => {
+            Explanation::Value(WrongValue::ListedMember)
+        }
         _ => Explanation::Refusal(refusal),
     }
 }

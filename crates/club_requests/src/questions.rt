@@ -66,6 +66,16 @@ pub enum Question {
     Events,
     /// Games, one per line.
     Games(Listing),
+    /// The challenges of all members, one per line.
+    Challenges,
+    /// The names of the members, as JSON.
+    MembersJson,
+    /// The events with the numbers of their games, as JSON.
+    EventsJson,
+    /// Games, as JSON: those that `Games` lists, in the same order.
+    GamesJson(Listing),
+    /// The challenges of all members, as JSON.
+    ChallengesJson,
     /// The running games and challenges of the member with this key, as JSON.
     MyGames(String),
     /// The ended games of the member with this key, as JSON.
