@@ -1,7 +1,7 @@
 //! Reads the rows of a table, all or by their first column, as row types.
 //! Functions that return `ReadFault` serve a database that is not yet checked; those with `TableFault` an open club.
 
-ghost use Rattle.std.specs.Prelude.{◌≡◌, ◌≢◌, ◌⊎◌, true, IsTrue, IfOk, IfErr, OnOk, is_ok, All, [], ◌∷◌, map};
+ghost use Rattle.std.specs.Prelude.{◌≡◌, ◌≢◌, ◌⊎◌, true, false, IsTrue, IfOk, IfErr, OnOk, is_ok, All, [], ◌∷◌, map};
 ghost use Rattle.std.specs.Prelude.{length, pos};
 ghost use Rattle.std.specs.List.Sorted.{IsSorted};
 ghost use Rattle.sqlite.specs.Order.{column};
@@ -46,6 +46,7 @@ pub fn show_all<T: Select, S: Alter>(conn: &mut Connection<S>) -> Result<Vec<Row
 /// Whether a query for one row found none.
 fn has_no_row(error: &Error) -> bool
     ensures none { result ≡ true → error.now ≡ QueryReturnedNoRows }
+    ensures other { result ≡ false → error.now ≢ QueryReturnedNoRows }
 {
     match error {
         Error::QueryReturnedNoRows => true,
@@ -58,6 +59,8 @@ fn show_last<T: Select, S: Alter>(conn: &mut Connection<S>) -> Result<Option<Row
     ensures reads { Reads (is_ok result) (state S.Store conn.old) (state S.Store conn.new) }
     ensures last { HasCleanDisk (state S.Store conn.new) → IfOk result (λ row. (content : _) →
         HasRows content (state S.Store conn.old) → IsLast (content T.table.tree) row) }
+    // A table without rows is no error.
+    ensures present { IfErr result (λ error. error ≢ QueryReturnedNoRows) }
 {
     match conn.query_row(T::table().last(), &[]) {
         Ok(row) => Ok(Some(row)),
