@@ -244,7 +244,7 @@ def killed_backups():
 def documented_repairs():
     """The blocks of commands for a wrong clock: to see the club's clock, to set it back, to go back to a backup."""
     text = (TOP / "docs/operating.md").read_text(encoding="utf-8")
-    section = text.partition("\n## When the machine's clock was wrong\n")[2].partition("\n## ")[0]
+    section = text.partition("\n## After a wrong clock\n")[2].partition("\n## ")[0]
     blocks = re.findall(r"^```sh\n(.*?)^```$", section, re.MULTILINE | re.DOTALL)
     return [re.sub("^sudo .*\n", "", it, flags=re.MULTILINE) for it in blocks]
 

@@ -198,7 +198,7 @@ def test_clock(folder):
     """The sweep's condition, in its unit and in the line of cron, over what timedatectl prints."""
     unit = (TOP / "tools/service/club-sweep.service").read_text(encoding="utf-8")
     condition = re.search(r"^ExecCondition=/bin/sh -c '(.*)'$", unit, re.MULTILINE)[1]
-    cron = re.search(r"^\S+ \* \* \* \* club (.*) && \S+/club \S+ sweep$",
+    cron = re.search(r"^\S+ \* \* \* \* club (.*) && \S+/club \S+ sweep --most \d+$",
                      (TOP / "docs/operating.md").read_text(encoding="utf-8"), re.MULTILINE)
     check("the line of cron has the condition of the unit", condition, cron and cron[1])
     stub = pathlib.Path(folder, "timedatectl")

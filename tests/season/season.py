@@ -128,6 +128,9 @@ class Season:
         """The sweep ends just those games that are listed as overdue at its moment."""
         before = self.give(now, ["games", "--overdue"])[1].splitlines()
         late = self.club.overdue(now)
+        if late:
+            words = ["sweep", "--most", str(len(late) - 1)]
+            check(f"`{' '.join(words)}` ends no game", (1, "", f"overdue {len(late)}\n"), self.give(now, words))
         self.order(now, ["sweep"], f"accepted sweep {len(late)}")
         self.club.accepted(now)
         running = {it.number for it in self.club.games if not it.end}

@@ -21,6 +21,7 @@ from lib.server import SHOW_GAME, serve
 SEATS = 1500  # games of a club over which a command takes a while
 WAIT = 20  # seconds at most until a command has the file
 LAST = 253402300799  # the last timestamp, in Unix seconds
+LATE = 100000  # a timestamp at which no player of the club has time left
 MOST = 0.5  # seconds within which a request is answered while the file is lent
 BODY = b'{"error":73,"name":"Store"}'
 LENT = (b"HTTP/1.1 503 Service Unavailable\r\nContent-Type: application/json\r\nContent-Length: 27\r\n"
@@ -81,6 +82,13 @@ def replies(server):
     check("the refused move was not made", True, b'"ply":0' in server.send(SHOW_GAME))
     check("a backup has the file, too", (0, "copied"), club("c.db", "backup", "copy.db"))
     check("the game is shown after a backup", b"HTTP/1.1 200 ", server.send(SHOW_GAME)[:13])
+    games = 1 + SEATS // 4
+    check("a sweep beside the server ends no game if more games are overdue than it may end",
+          (1, f"overdue {games}"), club("c.db", "sweep", "--most", str(games - 1), now=LATE))
+    check("the game runs after that", True, b'"end":null' in server.send(SHOW_GAME))
+    check("a sweep beside the server ends games up to its limit",
+          (0, f"accepted sweep {games}"), club("c.db", "sweep", "--most", str(games), now=LATE))
+    check("the game has ended after that", True, b'"end":"Time"' in server.send(SHOW_GAME))
 
 
 def clocks():

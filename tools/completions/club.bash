@@ -43,7 +43,7 @@ _club_command() { # COMMAND: sets its options and the kinds of its arguments
         import-pdn) options='-h --help' valued='' arguments=('-' '-' '-' '-' 'file') ;;
         import-csa) options='--part -h --help' valued='--part' arguments=('-' '-' '-' '-' 'file') ;;
         move) options='-h --help' valued='' arguments=('-' '-' '-') ;;
-        sweep) options='-h --help' valued='' arguments=() ;;
+        sweep) options='--most -h --help' valued='--most' arguments=() ;;
         batch) options='-h --help' valued='' arguments=('file') ;;
         round-robin) options='--double --dry -h --help' valued='' arguments=('-' '-' '-') ;;
         legal) options='-h --help' valued='' arguments=('-') ;;

@@ -4,7 +4,7 @@ function __club_words # the words of the line that are no options and no values 
     for word in (commandline -opc)[2..-1]
         if test $skip = yes
             set skip no
-        else if contains -- $word --now --part --event --member --count --host
+        else if contains -- $word --now --part --most --event --member --count --host
             set skip yes
         else if not string match -q -- '-?*' $word
             echo $word
@@ -49,6 +49,7 @@ complete -c club -n '__club_is_at 6 import-csa' -F
 complete -c club -n '__club_is_at 1' -a move -d 'Plays a move for the side whose ply it is'
 complete -c club -n '__club_is_in move' -s h -l help -d 'Print help'
 complete -c club -n '__club_is_at 1' -a sweep -d 'Ends by time every running game whose side to move has used more seconds than it has left'
+complete -c club -n '__club_is_in sweep' -l most -x -d 'Ends no game if more games than N are overdue, and prints how many'
 complete -c club -n '__club_is_in sweep' -s h -l help -d 'Print help'
 complete -c club -n '__club_is_at 1' -a batch -d 'Gives the club many orders in turn, each a line as behind FILE: member, event, seat, move, sweep, import-pdn, import-csa'
 complete -c club -n '__club_is_in batch' -s h -l help -d 'Print help'

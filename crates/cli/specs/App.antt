@@ -106,6 +106,10 @@ move_app =
     (required_as a_number (codes "PLY")))
     (required (codes "TEXT"))
 
+-- options of `sweep`
+abbrev pub sweep_app : App
+sweep_app = with_rule (new_app (codes "sweep")) (given_as a_number (codes "N") (codes "most"))
+
 -- subcommand with a GAME argument only
 abbrev pub of_game_app : Text → App
 of_game_app name = with_rule (new_app name) (required_as a_number (codes "GAME"))
@@ -212,7 +216,7 @@ with_orders_app app =
     (with_sub
     (with_sub
     (with_sub app move_app)
-    (new_app (codes "sweep")))
+    sweep_app)
     batch_app)
     round_robin_app
 

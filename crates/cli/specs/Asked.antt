@@ -27,7 +27,7 @@ use Rattle.club_requests.specs.declared.questions.Question.TheVariants.{MembersJ
 use Rattle.club_requests.specs.declared.questions.Question.TheVariants.{ChallengesJson}
 use Rattle.club_requests.specs.declared.questions.GameFilter.{GameFilter}
 use Rattle.club_requests.specs.declared.questions.GameFilter.TheVariants.{All, Running, Overdue}
-use Rattle.cli.specs.declared.words.Task.TheVariants.{Init, Request, Ask, Upgrade, Verify, Backup, Batch}
+use Rattle.cli.specs.declared.words.Task.TheVariants.{Init, Request, SweepAtMost, Ask, Upgrade, Verify, Backup, Batch}
 use Rattle.cli.specs.declared.batches.BatchOptions.{BatchOptions}
 use Rattle.cli.specs.declared.batches.RoundRobin.{RoundRobin}
 use Rattle.cli.specs.declared.words.Order.{Order}
@@ -55,6 +55,11 @@ number_of text = digits_value 10 (without_leading_plus text)
 pub record IsNumberIn (found : Found) (name : List ℕ) (other n : ℕ) : Type 0 where
   pub given : (text : List ℕ) → one_text found name ≡ Some text → IsWhole text → n ≡ number_of text
   pub absent : one_text found name ≡ None → n ≡ other
+
+-- optional integer argument
+pub record IsNumberGiven (found : Found) (name : List ℕ) (n : Option ℕ) : Type 0 where
+  pub given : (text : List ℕ) → one_text found name ≡ Some text → IsWhole text → n ≡ Some (number_of text)
+  pub absent : one_text found name ≡ None → n ≡ None
 
 -- timestamp given by `--now`
 pub record IsMomentIn (found : Found) (now : Option ℕ) : Type 0 where
@@ -168,6 +173,8 @@ AsksTask name found Verify = name ≡ codes "verify"
 AsksTask name found Upgrade = name ≡ codes "upgrade"
 AsksTask name found (Backup path) = (name ≡ codes "backup") × (string_bytes path ≡ text_in found (codes "FILE2"))
 AsksTask name found (Request command) = AsksCommand name found command
+    × (name ≡ codes "sweep" → IsNumberGiven found (codes "N") None)
+AsksTask name found (SweepAtMost most) = (name ≡ codes "sweep") × IsNumberGiven found (codes "N") (Some most)
 AsksTask name found (Batch batch) = ⊥
 
 -- with `--json` the subcommand with these arguments is this operation: a query

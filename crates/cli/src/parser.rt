@@ -8,7 +8,7 @@ ghost use Rattle.cli.specs.App.{game_app, games_app, given_as, import_app, impor
 ghost use Rattle.cli.specs.internal.App.{line_app};
 ghost use Rattle.cli.specs.App.{move_app, named_app, of_event_app, of_game_app, program_app};
 ghost use Rattle.cli.specs.internal.App.{named_line_app};
-ghost use Rattle.cli.specs.App.{required_as, required_times, round_robin_app, serve_app, show_app};
+ghost use Rattle.cli.specs.App.{required_as, required_times, round_robin_app, serve_app, show_app, sweep_app};
 ghost use Rattle.cli.specs.App.{with_entries_app, with_files_app, with_games_app, with_lists_app};
 ghost use Rattle.cli.specs.App.{with_orders_app, with_round_robin_flags_app};
 ghost use Rattle.cli.specs.internal.Built.{IsApp, IsAppOf, IsRule};
@@ -196,6 +196,21 @@ fn sweep_words<'a>(alloc: Global) -> clap::Command<'a>
         alloc,
         "sweep",
         "Ends by time every running game whose side to move has used more seconds than it has left",
+    )
+}
+
+// `sweep` as a command line has it: a line of a batch has no options.
+fn limited_sweep_words<'a>(alloc: Global) -> Result<clap::Command<'a>, AllocError>
+    ensures { IfOk result (IsApp sweep_app) }
+{
+    with_word(
+        sweep_words(alloc),
+        number_option(
+            alloc,
+            "N",
+            "most",
+            "Ends no game if more games than N are overdue, and prints how many",
+        ),
     )
 }
 
@@ -481,10 +496,10 @@ fn with_entries<'a>(
 ) -> Result<clap::Command<'a>, AllocError>
     ensures { (app : App) → IsApp app program.entry → IfOk result (IsAppOf (λ games. with_entries_app games app)) }
 {
-    let event = event_words(alloc)?;
     let init = subcommand(alloc, "init", "Makes the tables of a club in an empty file");
     let program = add_subcommand(program, Ok(init))?;
     let program = add_subcommand(program, member_words(alloc))?;
+    let event = event_words(alloc)?;
     let program = add_subcommand(program, Ok(event))?;
     let program = add_subcommand(program, seat_words(alloc))?;
     let program = add_subcommand(program, import_pdn_words(alloc))?;
@@ -499,7 +514,7 @@ fn with_orders<'a>(
     ensures { (app : App) → IsApp app program.entry → IfOk result (IsApp (with_orders_app app)) }
 {
     let program = add_subcommand(program, move_words(alloc))?;
-    let program = add_subcommand(program, Ok(sweep_words(alloc)))?;
+    let program = add_subcommand(program, limited_sweep_words(alloc))?;
     let program = add_subcommand(program, batch_words(alloc))?;
     add_subcommand(program, round_robin_words(alloc))
 }
@@ -516,19 +531,19 @@ fn with_games<'a>(
         "legal",
         "Lists the legal moves of a game, a line each; nothing where it has ended",
     );
+    let program = add_subcommand(program, legal)?;
+    let program = add_subcommand(program, show_words(alloc))?;
     let export = of_game_words(
         alloc,
         "export",
         "Writes a game as a record: draughts in PDN, shogi in CSA",
     );
+    let program = add_subcommand(program, export)?;
     let export_event = of_event_words(
         alloc,
         "export-event",
         "Writes all games of an event as records, by their numbers: PDN parted by an empty line, CSA by '/'",
     );
-    let program = add_subcommand(program, legal)?;
-    let program = add_subcommand(program, show_words(alloc))?;
-    let program = add_subcommand(program, export)?;
     add_subcommand(program, export_event)
 }
 
@@ -544,25 +559,25 @@ fn with_lists<'a>(
         "table",
         "Shows the cross table of an event: who has an ended game in it, by points, wins and id",
     );
+    let program = add_subcommand(program, table)?;
     let members = subcommand(
         alloc,
         "members",
         "Lists the members, a line each, without their keys",
     );
+    let program = add_subcommand(program, Ok(members))?;
     let events = subcommand(
         alloc,
         "events",
         "Lists the events, a line each, with how many games each has and how many of them run",
     );
-    let program = add_subcommand(program, table)?;
-    let program = add_subcommand(program, Ok(members))?;
+    let program = add_subcommand(program, Ok(events))?;
+    let program = add_subcommand(program, games_words(alloc))?;
     let challenges = subcommand(
         alloc,
         "challenges",
         "Lists the challenges, a line each: who challenges whom, and what came of it",
     );
-    let program = add_subcommand(program, Ok(events))?;
-    let program = add_subcommand(program, games_words(alloc))?;
     add_subcommand(program, Ok(challenges))
 }
 
@@ -578,12 +593,12 @@ fn with_files<'a>(
         "verify",
         "Reads and replays the whole file, and says that it is sound, or which table is damaged",
     );
+    let program = add_subcommand(program, Ok(verify))?;
     let upgrade = subcommand(
         alloc,
         "upgrade",
         "Carries a file of schema 1 over to schema 2, which has the rules of events; copy both files first",
     );
-    let program = add_subcommand(program, Ok(verify))?;
     let program = add_subcommand(program, Ok(upgrade))?;
     let program = add_subcommand(program, backup_words(alloc))?;
     add_subcommand(program, serve_words(alloc))
@@ -620,8 +635,8 @@ fn named_line<'a>(alloc: Global) -> clap::Command<'a>
 pub(crate) fn line_words<'a>(alloc: Global) -> Result<clap::Command<'a>, AllocError>
     ensures { IfOk result (IsAppOf line_app) }
 {
-    let event = event_words(alloc)?;
     let words = add_subcommand(named_line(alloc), member_words(alloc))?;
+    let event = event_words(alloc)?;
     let words = add_subcommand(words, Ok(event))?;
     let words = add_subcommand(words, seat_words(alloc))?;
     let words = add_subcommand(words, move_words(alloc))?;

@@ -1,6 +1,6 @@
 //! Parsing of the program's command line.
 
-ghost use Rattle.std.specs.Prelude.{◌≡◌, IfErr, IfNone, IfOk, IfSome, Some, codes, map, option_map, string_bytes};
+ghost use Rattle.std.specs.Prelude.{◌≡◌, ◌≢◌, IfErr, IfNone, IfOk, IfSome, Some, codes, map, option_map, string_bytes};
 ghost use Rattle.std.specs.Prelude.{true, false};
 ghost use Rattle.clap.specs.Words.{first_value, found_of, kind_of};
 ghost use Rattle.cli.specs.Asked.{Asks, AsksBy, AsksCommand, AsksImport, AsksJsonTask, AsksQuestion, AsksService};
@@ -32,6 +32,8 @@ pub enum Task {
     Init,
     /// Execute a command of the officer.
     Request(Command),
+    /// End the overdue games, unless there are more than this.
+    SweepAtMost(u64),
     /// Answer a query; the club does not change.
     Ask(Question),
     /// Check that the rows of the file are those of a club.
@@ -368,9 +370,19 @@ fn board_of(words: &ArgMatches<'_>) -> Question
     }
 }
 
-// The operation of a subcommand that is a command to the club.
+// The operation of `sweep`, with a limit or without.
+fn sweep_of(words: &ArgMatches<'_>) -> Task
+    ensures { AsksTask (codes "sweep") (found_of words.now) result }
+{
+    match words.get_one::<u64>("N") {
+        Some(most) => Task::SweepAtMost(most),
+        None => Task::Request(Command::Sweep),
+    }
+}
+
+// The operation of another subcommand that is a command to the club.
 fn request_of(alloc: Global, name: &str, words: &ArgMatches<'_>) -> Result<Task, BadWords>
-    ensures ok { IfOk result (AsksTask name.now (found_of words.now)) }
+    ensures ok { IfOk result (λ task. name.now ≢ codes "sweep" → AsksTask name.now (found_of words.now) task) }
     ensures err { IfErr result (IsParserErrorFor (HasNoCommand name.now (found_of words.now))) }
 {
     match command_of(alloc, name, words) {
@@ -405,6 +417,7 @@ fn task_of(alloc: Global, name: &str, words: &ArgMatches<'_>) -> Result<Task, Ba
         "events" => Ok(Task::Ask(Question::Events)),
         "games" => games_of(alloc, words),
         "challenges" => Ok(Task::Ask(Question::Challenges)),
+        "sweep" => Ok(sweep_of(words)),
         "verify" => Ok(Task::Verify),
         "upgrade" => Ok(Task::Upgrade),
         "backup" => Ok(Task::Backup(text(alloc, words, "FILE2")?)),
@@ -578,13 +591,15 @@ fn order_of(
     ensures ok { IfOk result (AsksOrder is_json (found_of all.now) name.now (found_of words.now)) }
     ensures err { IfErr result (IsParserErrorFor (HasNoTaskBy is_json name.now (found_of words.now))) }
 {
+    // The task comes last, so that nothing else is dropped with it.
+    let file = text(alloc, all, "FILE")?;
+    let record = record_of(alloc, name, words)?;
     let task = match task_by(alloc, is_json, name, words) {
         Ok(task) => task,
         Err(told) => return Err(told),
     };
-    let record = record_of(alloc, name, words)?;
     Ok(Order {
-        file: text(alloc, all, "FILE")?,
+        file,
         now: moment_of(all),
         task,
         record,

@@ -6,5 +6,6 @@ pub mod Proved
 pub mod QuestionLemmas
 pub mod RefusalLemmas
 pub mod SessionLemmas
+pub mod SweepLemmas
 pub mod TakenLemmas
 pub mod WrittenLemmas

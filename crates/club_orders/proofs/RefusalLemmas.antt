@@ -16,7 +16,7 @@ use Rattle.club_orders.specs.declared.report.Report.TheVariants.{Ready, Sound, A
 use Rattle.club_orders.specs.declared.report.Report.TheVariants.{Unopened, StoreFailed, InUse, NotOpened, NoClock, InputFailed}
 use Rattle.club_orders.specs.declared.report.Report.TheVariants.{Listening, PortUnavailable, NoMemory, Upgraded}
 use Rattle.club_orders.specs.declared.report.Report.TheVariants.{AlreadyUpgraded, Batched, Copied, BackupFailed}
-use Rattle.club_orders.specs.declared.report.Report.TheVariants.{Unread, ValueRefused}
+use Rattle.club_orders.specs.declared.report.Report.TheVariants.{Overdue, Unread, ValueRefused}
 use Rattle.club_orders.specs.Report.{IfUnopened, IfUpgradeOf, schemas_after_upgrade, upgrade_of}
 use Rattle.club_orders.specs.internal.Report.{upgrade_report}
 use Rattle.store.specs.Histories.{HistoryStep, IsReachable, IsReachableIn, upgraded}
@@ -32,6 +32,7 @@ taken_over P Upgraded taken = tt
 taken_over P AlreadyUpgraded taken = tt
 taken_over P Copied taken = tt
 taken_over P (Answered outcome) taken = tt
+taken_over P (Overdue count) taken = tt
 taken_over P (Batched batched) taken = tt
 taken_over P Shown taken = tt
 taken_over P OutputFailed taken = tt

@@ -23,7 +23,7 @@ use Rattle.club_orders.specs.declared.causes.Explanation.TheVariants as explanat
 use Rattle.club_orders.specs.declared.causes.UnreadObject.{UnreadObject}
 use Rattle.club_orders.specs.declared.causes.ExplainedFault.{ExplainedFault}
 use Rattle.club_orders.specs.declared.causes.ExplainedFault.TheVariants as fault
-use Rattle.club_orders.specs.declared.causes.WrongValue.TheVariants.{ListedMember, SeatedMember}
+use Rattle.club_orders.specs.declared.causes.WrongValue.TheVariants.{ListedMember, SeatedMember, SweepLimit}
 use Rattle.club_orders.specs.declared.batched.BatchResults.{BatchResults}
 use Rattle.club_orders.specs.declared.report.Report.{Report}
 use Rattle.club_orders.specs.declared.report.Report.TheVariants.{Ready, Sound, Answered, Shown, OutputFailed}
@@ -31,7 +31,7 @@ use Rattle.club_orders.specs.declared.report.Report.TheVariants.{Unopened, Store
 use Rattle.club_orders.specs.declared.report.Report.TheVariants.{InputFailed}
 use Rattle.club_orders.specs.declared.report.Report.TheVariants.{Listening, PortUnavailable, NoMemory, Upgraded}
 use Rattle.club_orders.specs.declared.report.Report.TheVariants.{AlreadyUpgraded, Batched, Copied, BackupFailed}
-use Rattle.club_orders.specs.declared.report.Report.TheVariants.{Unread, ValueRefused}
+use Rattle.club_orders.specs.declared.report.Report.TheVariants.{Overdue, Unread, ValueRefused}
 use Rattle.club_orders.specs.Batches.{IsBatchTold, IsBegunWith}
 use Rattle.club_orders.specs.Report.{report_status, report_text, IsFaultText}
 
@@ -104,6 +104,7 @@ report_explained task InUse = Some (explanation.Fault fault.InUse)
 report_explained task (NotOpened cause) = Some (explanation.Fault (fault.NotOpened cause))
 report_explained task (Unread unread) = None
 report_explained task (ValueRefused value) = Some (explanation.Value value)
+report_explained task (Overdue count) = Some (explanation.Value SweepLimit)
 report_explained task NoClock = Some (explanation.Fault fault.NoClock)
 report_explained task InputFailed = Some (explanation.Fault (input_explained task))
 report_explained task PortUnavailable = Some (explanation.Fault fault.NoPort)

@@ -5,4 +5,5 @@ pub mod Lines
 pub mod NextStates
 pub mod Refused
 pub mod Report
+pub mod Sweeps
 pub mod internal

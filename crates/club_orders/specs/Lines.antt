@@ -41,6 +41,7 @@ use Rattle.club_orders.specs.declared.texts.TheConstants.{MEMORY, NO_CLOCK, NO_R
 use Rattle.club_orders.specs.declared.texts.TheConstants.{NO_COPY, NO_ORDERS, NOT_PRIVATE, UTF_16, AUTO_VACUUM}
 use Rattle.club_orders.specs.declared.texts.TheConstants.{RESERVED_BYTES, MALFORMED, BROKEN_RULES, SEATED_NAME}
 use Rattle.club_orders.specs.declared.texts.TheConstants.{NAME_TWICE, SEATED_MEMBER, KEY_PREFIX, VIRTUAL_TABLE, VIEW}
+use Rattle.club_orders.specs.declared.texts.TheConstants.{SWEEP_LIMIT}
 use Rattle.club_orders.specs.declared.texts.TheConstants.{VIEW_TRIGGER, NAMESAKE, TABLE, OBJECT_END}
 
 -- refusals of a move by the rules
@@ -113,6 +114,7 @@ value_line value.SeatedName = SEATED_NAME.now
 value_line value.NameTwice = NAME_TWICE.now
 value_line value.SeatedMember = SEATED_MEMBER.now
 value_line value.KeyPrefix = KEY_PREFIX.now
+value_line value.SweepLimit = SWEEP_LIMIT.now
 
 -- why a file was not opened
 abbrev pub file_line : FileFault → List ℕ

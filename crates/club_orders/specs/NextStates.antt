@@ -2,6 +2,7 @@
 use Rattle.std.specs.Prelude.{◌⊎◌, ◌+◌, ℕ, List, length, IsSome}
 use Rattle.sqlite.specs.Tree.{Trees}
 use Rattle.store_tables.specs.Over.{LeavesBeside, Neighbours}
+use Rattle.club_requests.specs.declared.requests.Command.TheVariants.{Sweep}
 use Rattle.club_requests.specs.declared.requests.Request as given_request
 use Rattle.club_core.specs.State.{Request}
 use Rattle.club_rows.specs.Club.{ClubState, tables}
@@ -27,9 +28,11 @@ LeavesBatch them s requests (Batched batched) trees =
     ⊎ (IsSome batched.fault × IsAfter them s requests (length batched.outcomes.items + 1) trees)
 LeavesBatch them s requests _ trees = LeavesBeside them (tables s) trees
 
--- Only a command and a batch change the state. The foreign tables beside the club stay.
+-- Only a command, a sweep with a limit and a batch change the state. The foreign tables beside the club stay.
 abbrev pub LeavesTask : Neighbours → ClubState → Task → (moment : ℕ) → Report → Trees → Type 0
 LeavesTask them s (task.Request command) moment report trees =
     LeavesRequest them s (given command moment) report trees
+LeavesTask them s (task.SweepAtMost most) moment report trees =
+    LeavesRequest them s (given Sweep moment) report trees
 LeavesTask them s (task.Batch batch) moment report trees = LeavesBatch them s batch.requests.items report trees
 LeavesTask them s _ moment report trees = LeavesBeside them (tables s) trees

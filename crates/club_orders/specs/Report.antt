@@ -10,6 +10,7 @@ use Rattle.store_tables.specs.declared.names.Version.{Version}
 use Rattle.store_tables.specs.declared.names.Version.TheVariants.{First, Current}
 use Rattle.club_requests.specs.declared.requests.Who.TheVariants.{Officer}
 use Rattle.club_requests.specs.declared.requests.Command.{Command}
+use Rattle.club_requests.specs.declared.requests.Command.TheVariants.{Sweep}
 use Rattle.club_requests.specs.declared.answers.Outcome.{Outcome}
 use Rattle.club_requests.specs.declared.answers.Outcome.TheVariants as outcome
 use Rattle.club_requests.specs.AnswerText.{outcome_text}
@@ -32,7 +33,7 @@ use Rattle.club_orders.specs.declared.report.Report.TheVariants.{Unopened, Store
 use Rattle.club_orders.specs.declared.report.Report.TheVariants.{InputFailed}
 use Rattle.club_orders.specs.declared.report.Report.TheVariants.{Listening, PortUnavailable, NoMemory, Upgraded}
 use Rattle.club_orders.specs.declared.report.Report.TheVariants.{AlreadyUpgraded, Batched, Copied, BackupFailed}
-use Rattle.club_orders.specs.declared.report.Report.TheVariants.{Unread, ValueRefused}
+use Rattle.club_orders.specs.declared.report.Report.TheVariants.{Overdue, Unread, ValueRefused}
 use Rattle.club_orders.specs.Batches.{batch_sessions, batch_status, fault_line}
 use Rattle.cli.specs.declared.batches.Batch.{Batch}
 use Rattle.cli.specs.declared.words.Task.{Task}
@@ -46,6 +47,7 @@ report_text Upgraded = codes "upgraded\n"
 report_text AlreadyUpgraded = codes "repeated upgrade\n"
 report_text Copied = codes "copied\n"
 report_text (Answered outcome) = outcome_text outcome ++ codes "\n"
+report_text (Overdue count) = codes "overdue " ++ decimal count ++ codes "\n"
 report_text (Batched batched) = fault_line batched.fault
 report_text Shown = []
 report_text OutputFailed = codes "store 77 Output\n"
@@ -76,6 +78,7 @@ report_status Upgraded = 0
 report_status AlreadyUpgraded = 0
 report_status Copied = 0
 report_status (Answered outcome) = outcome_status outcome
+report_status (Overdue count) = 1
 report_status (Batched batched) = batch_status batched
 report_status Shown = 0
 report_status OutputFailed = 3
@@ -143,6 +146,7 @@ schemas_after _ report before = before
 -- creating a club and reading add no step
 abbrev pub task_sessions : Task → ℕ → Report → List HistoryStep
 task_sessions (task.Request command) moment report = request_sessions (given command moment) report
+task_sessions (task.SweepAtMost most) moment report = request_sessions (given Sweep moment) report
 task_sessions task.Upgrade moment report = upgrade_of report ∷ []
 task_sessions (task.Batch batch) moment report = batch_sessions batch.requests.items report
 task_sessions _ moment report = []
@@ -160,6 +164,11 @@ Answers _ Holds = ⊥
 abbrev pub IfRequest : Task → (Command → Type 0) → Type 0
 IfRequest (task.Request command) Holds = Holds command
 IfRequest _ Holds = ⊤
+
+-- a property that only a sweep with a limit must have, about its limit
+abbrev pub IfBoundedSweep : Task → (ℕ → Type 0) → Type 0
+IfBoundedSweep (task.SweepAtMost most) Holds = Holds most
+IfBoundedSweep _ Holds = ⊤
 
 -- a property that only a batch must have
 abbrev pub IfBatch : Task → (Batch → Type 0) → Type 0

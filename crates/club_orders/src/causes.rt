@@ -47,6 +47,8 @@ pub enum WrongValue {
     SeatedMember,
     /// The prefix of a round robin's keys.
     KeyPrefix,
+    /// The limit of a sweep: more games are overdue.
+    SweepLimit,
 }
 
 /// Why a file was not opened, although no other program holds it.

@@ -20,6 +20,8 @@ ghost use Rattle.cli.specs.declared.words.Task.TheVariants.{Init};
 ghost use Rattle.club_orders.specs.Batches.{AnswersBatch};
 ghost use Rattle.club_orders.specs.NextStates.{LeavesRequest, LeavesTask};
 ghost use Rattle.club_orders.specs.Report.{given, Answers, IfRequest, IfAsk, IfBatch, IfVerify, IfUnopened};
+ghost use Rattle.club_orders.specs.Report.{IfBoundedSweep};
+ghost use Rattle.club_orders.specs.Sweeps.{IsBoundedSweep};
 ghost use Rattle.club_orders.specs.internal.Report.{ask_report};
 ghost use Rattle.club_orders.specs.Report.{IfTaken, IfUpgradeOf, IsRepeated, OnlyUnopened, upgrade_of};
 ghost use Rattle.club_orders.specs.internal.Report.{IsUpgradeResult};
@@ -34,6 +36,7 @@ ghost use Rattle.club_orders.specs.internal.Refused.{IsUpgradeRefusal};
 
 use crate::open_club::{Execute, execute_in_club, open_checked};
 use crate::report::Report;
+use crate::sweeps::BoundedSweep;
 use cli::Task;
 use clocks::Moment;
 use club_requests::{Command, Outcome, Question, Refusal, Who};
@@ -242,6 +245,7 @@ pub fn verify<S: Alter>(alloc: Global, conn: Connection<S>) -> (Report, Connecti
 /// # Guarantees
 ///
 /// - `answer`, `given`, `asked`: the reported outcomes and the text written are those of the club's specification.
+/// - `bounded`: a sweep with a limit ends no game if more games are overdue, and reports their number.
 /// - `history`: whatever a crash leaves is reached by the earlier history and this task, beside the same foreign
 ///   tables. Only an upgrade changes the schema.
 /// - `next_state`: from a legal state, whatever a crash leaves is that state or the next one; the next one after
@@ -278,6 +282,9 @@ pub fn act<S: Alter, W: Write>(
         (s : ClubState) → IsClub s → HasState s (state S.Store conn).committed.trees →
         IfRequest task.now (λ command. Answers result.0 (λ outcome.
         outcome_of outcome ≡ answered (club_step s (given command moment)))) }
+    ensures bounded { HasCleanDisk (state S.Store result.1) → Opens (state S.Store conn) →
+        IsLive (state S.Store conn) → (s : ClubState) → IsClub s → HasState s (state S.Store conn).committed.trees →
+        IfBoundedSweep task.now (λ most. IsBoundedSweep s moment most result.0) }
     ensures given { HasCleanDisk (state S.Store result.1) → Opens (state S.Store conn) → IsLive (state S.Store conn) →
         (s : ClubState) → IsClub s → HasState s (state S.Store conn).committed.trees →
         IfBatch task.now (λ batch. AnswersBatch s moment batch result.0) }
@@ -331,6 +338,10 @@ pub fn act<S: Alter, W: Write>(
     match task {
         Task::Init => init(alloc, conn),
         Task::Request(command) => execute_in_club(alloc, conn, command, moment, &mut sink()),
+        Task::SweepAtMost(most) => {
+            let sweep = BoundedSweep { most: *most };
+            execute_in_club(alloc, conn, &sweep, moment, &mut sink())
+        }
         Task::Ask(question) => execute_in_club(alloc, conn, question, moment, out),
         Task::Verify => verify(alloc, conn),
         Task::Upgrade => run_upgrade(alloc, conn),

@@ -111,6 +111,7 @@ fn report_explained(task: &Task, report: &Report) -> Option<Explanation>
         // It has a line of its own, with the object's name.
         Report::Unread(_) => None,
         Report::ValueRefused(value) => Some(Explanation::Value(*value)),
+        Report::Overdue(_) => Some(Explanation::Value(WrongValue::SweepLimit)),
         Report::NoClock => Some(Explanation::Fault(ExplainedFault::NoClock)),
         Report::InputFailed => Some(Explanation::Fault(input_explained(task))),
         Report::PortUnavailable => Some(Explanation::Fault(ExplainedFault::NoPort)),

@@ -5,6 +5,7 @@
 //! - `act`: what `club_session::execute_order` promises of an order, over a connection that was just opened.
 //! - `act` (`given`, `history`): the orders of a batch are one session more, up to a fault. If a query that comes
 //!   first is refused, none is executed.
+//! - `act` (`bounded`): a sweep with a limit ends no game if more games are overdue, and reports their number.
 //! - `back_up` (`copied`, `after_crash`, `reads`): after `copied` the copy has exactly the club's tables. Otherwise a
 //!   crash leaves no table, or all; the club is only read.
 //! - `back_up` (`untouched`, `unchanged`): if reading the club or an allocation failed, the copy was not touched;
@@ -29,6 +30,7 @@ mod explained;
 mod explained_batch;
 mod open_club;
 pub mod report;
+mod sweeps;
 mod texts;
 mod written;
 

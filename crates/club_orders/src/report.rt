@@ -32,6 +32,8 @@ pub enum Report {
     Ready,
     /// A command has this outcome, or a query was refused.
     Answered(Outcome),
+    /// A sweep with a limit ended no game, because more games are overdue: this many.
+    Overdue(u64),
     /// A batch was executed, up to the first fault.
     Batched(BatchResults),
     /// The file holds a legal club.
@@ -86,6 +88,7 @@ impl Report {
             Report::Answered(Outcome::Accepted(_)) => DONE,
             Report::Answered(Outcome::Repeated(_)) => DONE,
             Report::Answered(Outcome::Refused(_)) => REFUSED,
+            Report::Overdue(_) => REFUSED,
             Report::Batched(batched) => batched.status(),
             Report::Shown => DONE,
             Report::OutputFailed => FAULT,
@@ -117,6 +120,7 @@ fn write_report(text: &mut String, report: &Report) -> Result<(), AllocError>
         Report::AlreadyUpgraded => writeln!(text, "repeated upgrade"),
         Report::Copied => writeln!(text, "copied"),
         Report::Answered(outcome) => writeln!(text, "{outcome}"),
+        Report::Overdue(count) => writeln!(text, "overdue {count}"),
         Report::Batched(batched) => write_fault(text, &batched.fault),
         Report::Shown => Ok(()),
         Report::OutputFailed => writeln!(text, "store 77 Output"),

@@ -158,6 +158,12 @@ const KEY_PREFIX: &str =
     "this value is not allowed: PREFIX and the number of each game must be 1 to 24 letters, \
     digits, '.', '_' or '-'\n";
 
+// A limit that is exceeded.
+
+const SWEEP_LIMIT: &str =
+    "more games are overdue than --most allows, and none was ended: check the machine's clock; \
+    'games --overdue' lists them\n";
+
 // Faults of the file, memory, input and output, 70 to 77.
 
 // 70
@@ -351,6 +357,7 @@ pub(crate) fn value_line(value: WrongValue) -> &'static str
         WrongValue::NameTwice => NAME_TWICE,
         WrongValue::SeatedMember => SEATED_MEMBER,
         WrongValue::KeyPrefix => KEY_PREFIX,
+        WrongValue::SweepLimit => SWEEP_LIMIT,
     }
 }
 

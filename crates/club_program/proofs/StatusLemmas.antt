@@ -7,7 +7,7 @@ use Rattle.club_orders.specs.declared.report.Report.TheVariants.{Ready, Sound, A
 use Rattle.club_orders.specs.declared.report.Report.TheVariants.{Unopened, StoreFailed, InUse, NotOpened, NoClock, InputFailed}
 use Rattle.club_orders.specs.declared.report.Report.TheVariants.{Listening, PortUnavailable, NoMemory, Upgraded}
 use Rattle.club_orders.specs.declared.report.Report.TheVariants.{AlreadyUpgraded, Batched, Copied, BackupFailed}
-use Rattle.club_orders.specs.declared.report.Report.TheVariants.{Unread, ValueRefused}
+use Rattle.club_orders.specs.declared.report.Report.TheVariants.{Overdue, Unread, ValueRefused}
 use Rattle.club_orders.specs.Batches.{batch_status, is_refused, status_of}
 use Rattle.club_orders.specs.declared.batched.BatchResults as batch_report
 use Rattle.club_orders.specs.Report.{outcome_status, report_status}
@@ -32,6 +32,7 @@ status_small Upgraded = omega (arith)
 status_small AlreadyUpgraded = omega (arith)
 status_small Copied = omega (arith)
 status_small (Answered o) = outcome_small o
+status_small (Overdue count) = omega (arith)
 status_small (Batched batched) = batch_small batched.fault (list_any is_refused batched.outcomes.items)
 status_small Shown = omega (arith)
 status_small OutputFailed = omega (arith)

@@ -21,11 +21,12 @@ ghost use Rattle.club_orders.specs.declared.report.Report.TheVariants.{Sound, Un
 ghost use Rattle.club_orders.specs.Report.{IsNotOpened};
 ghost use Rattle.club_session.specs.declared.preflight.OpenMode.TheVariants.{Making};
 ghost use Rattle.club_orders.specs.Batches.{AnswersBatch};
-ghost use Rattle.club_orders.specs.Report.{given, Answers, IfRequest, IfAsk, IfBatch, IfVerify};
+ghost use Rattle.club_orders.specs.Report.{given, Answers, IfRequest, IfAsk, IfBatch, IfBoundedSweep, IfVerify};
 ghost use Rattle.club_orders.specs.Report.{Shows, IsPassed, IsBegun, IsBegunBehind, task_sessions};
 ghost use Rattle.club_orders.specs.Report.{IfUnopened, IsCreated, IsCreation, IsExisting, IsRepeated, OnlyUnopened};
 ghost use Rattle.club_orders.specs.Report.{schemas_after, writes};
 ghost use Rattle.club_orders.specs.NextStates.{LeavesTask};
+ghost use Rattle.club_orders.specs.Sweeps.{IsBoundedSweep};
 ghost use Rattle.club_orders.specs.Refused.{IfAccepted, IfOpensClub, IfUpgrade, IsOlder};
 ghost use Rattle.club_session.specs.Found.{AreCarriedOver, AreFilesOf, AreFirstFilesOf, AreKept, AreNotUpgraded};
 ghost use Rattle.club_session.specs.Found.{AnswerAs, AreFilesBeside, AreRefused, AreSound, HaveClubTables};
@@ -96,6 +97,7 @@ pub fn open_files<S: RepeatableStart>(
 /// - `shape`: a file is accepted only with the schema of a club; by an upgrade, of either version.
 /// - `answer`, `given`, `asked`: the reported outcomes and the text written to `out` are those of the club's
 ///   specification.
+/// - `bounded`: a sweep with a limit ends no game if more games are overdue, and reports their number.
 /// - `refuses`, `withheld`: the reason why a file was rejected is true, and the file is unchanged. Only an upgrade in
 ///   which a database call failed may have changed it.
 /// - `passes`, `sound`: `verify` reports a legal club as sound, unless a call fails or memory runs out, and nothing
@@ -134,6 +136,9 @@ pub fn execute_order<S: Start, W: Write>(
         (s : ClubState) → AreFilesOf s (image_at S.Start) →
         IfRequest task.now (λ command. Answers result.0 (λ outcome.
         outcome_of outcome ≡ answered (club_step s (given command moment))))) }
+    ensures bounded { IfSome result.1 (λ store. IsClean (store_view store) →
+        (s : ClubState) → AreFilesOf s (image_at S.Start) →
+        IfBoundedSweep task.now (λ most. IsBoundedSweep s moment most result.0)) }
     ensures given { IfSome result.1 (λ store. IsClean (store_view store) →
         (s : ClubState) → AreFilesOf s (image_at S.Start) →
         IfBatch task.now (λ batch. AnswersBatch s moment batch result.0)) }

@@ -28,6 +28,7 @@ ghost use Rattle.club_changes.specs.Steps.{request, club_step, club_next};
 
 mod asking;
 mod keys;
+mod previews;
 mod run;
 mod sessions;
 mod shut;

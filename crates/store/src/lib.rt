@@ -21,6 +21,7 @@
 //! - `Club::ask` (`shown`, `begun`, `output`): a query is answered as `club_answers` says. After a failed writer the
 //!   club stays open.
 //! - `Club::member_by_key` (`held`): the name of the member who has a key.
+//! - `Club::preview` (`answer`, `reads`): the outcome that a command would have, with nothing changed.
 //! - `Club::run` (`outcomes`, `stored`, `left`): requests in turn have the outcomes of the state machine. After a
 //!   fault, a crash leaves the tables after the answered requests or after one more.
 //! - `Club::session` (`history`, `stands`), `resume` (`history`, `stands`): a crash leaves the tables to which the

@@ -30,6 +30,18 @@ returns-in-Init-clause-behind g c clean opens live is = c.init.ensures.behind cl
 pub returns-in-Request-clause-older : goal.returns-in-Request-clause-older
 returns-in-Request-clause-older g c = rw c.in-Request.is c.execute_in_club.ensures.older
 
+pub returns-in-SweepAtMost-clause-bounded : goal.returns-in-SweepAtMost-clause-bounded
+returns-in-SweepAtMost-clause-bounded g c = rw c.in-SweepAtMost.is c.execute_in_club-in-SweepAtMost.ensures.answer
+
+pub returns-in-SweepAtMost-clause-older : goal.returns-in-SweepAtMost-clause-older
+returns-in-SweepAtMost-clause-older g c = rw c.in-SweepAtMost.is c.execute_in_club-in-SweepAtMost.ensures.older
+
+pub returns-in-SweepAtMost-clause-next_state : goal.returns-in-SweepAtMost-clause-next_state
+returns-in-SweepAtMost-clause-next_state g c = rw c.in-SweepAtMost.is c.execute_in_club-in-SweepAtMost.ensures.next_state
+
+pub returns-in-SweepAtMost-clause-history : goal.returns-in-SweepAtMost-clause-history
+returns-in-SweepAtMost-clause-history g c = rw c.in-SweepAtMost.is c.execute_in_club-in-SweepAtMost.ensures.history
+
 pub returns-in-Ask-clause-older : goal.returns-in-Ask-clause-older
 returns-in-Ask-clause-older g c = rw c.in-Ask.is c.execute_in_club-in-Ask.ensures.older
 

@@ -63,6 +63,15 @@ returns-clause-answer g c clean s are =
     c.act-report.ensures.answer after opened.0 opened.1 s are.legal
     (are.finds _ (record { holds = here.holds; reads = here.reads }))
 
+pub returns-clause-bounded : goal.returns-clause-bounded
+returns-clause-bounded g c clean s are =
+    let after = was_clean _ _ c.close.ensures.clean clean in
+    let before = was_clean _ _ c.act-report.ensures.clean after in
+    let opened = (rw c.in-Ok.is at c.requires.opened) before in
+    let here = (rw c.in-Ok.is at c.requires.found) before in
+    c.act-report.ensures.bounded after opened.0 opened.1 s are.legal
+    (are.finds _ (record { holds = here.holds; reads = here.reads }))
+
 pub returns-clause-given : goal.returns-clause-given
 returns-clause-given g c clean s are =
     let after = was_clean _ _ c.close.ensures.clean clean in
