@@ -210,11 +210,11 @@ def accepted_challenges(server):
         open_one = notify(server, now=now)[0], server.take()
         assert desk.request("POST", "/answers/anna/1", {"accept": True}, "keybert2")[0] == 200
         status, mails = notify(server, now=now)[0], server.take()
-    check("an open challenge cannot be read by the present program", (0, []), open_one)
-    expected = [("anna@example.org", "Challenge accepted: game 5 against bert begins (fuji)"),
-                ("anna@example.org", "Your turn against bert (fuji, game 5)"),
-                ("bert@example.org", "Herausforderung angenommen: Partie 5 gegen anna beginnt (fuji)")]
-    check("an accepted challenge is mailed to both players, beside a server", (0, expected), (status, mails))
+    check("an open challenge is mailed to the member who is challenged, beside a server",
+          (0, [("bert@example.org", "anna fordert Sie heraus (fuji)")]), open_one)
+    expected = [("anna@example.org", "Your turn against bert (fuji, game 5)"),
+                ("anna@example.org", "bert accepts your challenge (fuji, game 5)")]
+    check("an accepted challenge is mailed to the challenger, beside a server", (0, expected), (status, mails))
     check("an accepted challenge is mailed once", (0, []), (notify(server, now=now)[0], server.take()))
 
 
