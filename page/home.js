@@ -29,7 +29,8 @@ export const secondsLeft = (game) => (game.deadline === null ? Infinity : game.d
 // The minute of the last reply.
 export const minute = () => Math.floor(me.moment / MINUTE);
 const isOver = (game) => secondsLeft(game) < 0;
-const kindOf = (event) => club.events.find((it) => it.event === event)?.game;
+const eventOf = (event) => club.events.find((it) => it.event === event);
+const kindOf = (event) => eventOf(event)?.game;
 const rulesOf = ({ kind }) => (kind === 'shogi' ? shogi : draughts);
 const toMe = (it) => it.state === 'open' && it.to === me.member;
 
@@ -87,14 +88,14 @@ function paintGames() {
   fill('games', ...(parts[0] ? parts : [none]));
 }
 
-function answers({ from, number }) {
+function answers({ event, from, number }) {
   const path = `answers/${from}/${number}`;
   const answer = (name, where, body, look) => {
     return button(text(name), () => perform(() => ask(where, body)), `${name} ${where}`, look);
   };
   return from === me.member
     ? [answer('withdraw', `challenges/${number}/withdraw`, {})]
-    : [answer('take', path, { accept: true }, 'main'), answer('refuse', path, { accept: false })];
+    : [...(eventOf(event).open ? [answer('take', path, { accept: true }, 'main')] : []), answer('refuse', path, { accept: false })];
 }
 
 // Lists open challenges, and accepted ones whose game has just begun; and how many the server left out.
@@ -121,11 +122,14 @@ function paintClub() {
   const terms = (it) => text(it.increment ? 'terms' : 'wholeGame', {
     game: text(it.game), budget: span(it.budget), increment: span(it.increment),
   });
-  fill('events', ...club.events.map((it) => make('li', {}, link('event', it.event), make('span', { className: 'faint' }, terms(it)))));
+  const row = (it) => make('li', {}, link('event', it.event), make('span', { className: 'faint' }, terms(it)),
+    ...(it.open ? [] : [make('span', { className: 'tag' }, text(68))]));
+  const open = club.events.filter((it) => it.open);
+  fill('events', ...club.events.map(row));
   const others = club.members.filter((it) => it !== me.member);
   fill('other', ...others.map((it) => make('option', {}, it)));
-  fill('cup', ...club.events.map((it) => make('option', { value: it.event }, text('eventGame', { event: it.event, game: text(it.game) }))));
-  byId('challenge').hidden = !others[0] || !club.events[0];
+  fill('cup', ...open.map((it) => make('option', { value: it.event }, text('eventGame', { event: it.event, game: text(it.game) }))));
+  byId('challenge').hidden = !others[0] || !open[0];
 }
 
 // The member's finished games, the latest first. They are requested when the reader opens them.

@@ -500,6 +500,13 @@ export const TEXTS = {
     '\u3053\u3053\u3067\u306f\u5165\u7389\u5ba3\u8a00\u306f\u3067\u304d\u307e\u305b\u3093',
     'L\u2019entr\u00e9e du roi ne peut pas \u00eatre d\u00e9clar\u00e9e ici',
   ],
+  68: [
+    'Closed to challenges',
+    'Keine Herausforderungen mehr',
+    'Gesloten voor uitdagingen',
+    '\u6311\u6226\u306e\u53d7\u4ed8\u7d42\u4e86',
+    'Ferm\u00e9 aux d\u00e9fis',
+  ],
   72: [
     'The club\u2019s file cannot be used; please tell the officer',
     'Die Datei des Clubs ist nicht nutzbar; bitte informieren Sie den Turnierleiter',

@@ -146,7 +146,7 @@ def explained(folder):
             "seat y1 autumn anna anna\nseat y2 autumn anna zoe\nseat y3 nowhere anna bert\nmove 9999 1 32-28\nsweep\n")
     why = ("2 this value is not allowed: NAME must be 1 to 24 letters, digits, '.', '_' or '-'\n"
            "3 this value is not allowed: KEY, the member's secret, must be 8 to 64 letters and digits\n"
-           "4 the name is taken with other values, or another member has this key; choose another\n"
+           "4 the name is taken with other values, or a member has or had this key; choose another\n"
            "6 this value is not allowed: BUDGET must be 1 to 31,536,000 seconds; 1209600 is 14 days\n"
            "7 FIRST and SECOND are the same member\n"
            "8 FIRST or SECOND is not a member; 'members' lists them\n"
@@ -274,6 +274,29 @@ def full_disk():
         check("the same batch continues when there is room", (0, expected, ""), give(folder, ["batch", "-"], text))
 
 
+def arbiters_orders():
+    """A batch with an arbiter's order is 71 as a whole over a file of schema 2, and goes on after `upgrade --arbiter`."""
+    text = "member bert keybert2\nkey anna 1 keyanna9\nclose autumn\nkey anna 3 keyanna8\n"
+    refused = 3, "", "store 71 Schema 2\n"
+    done = output([(1, "accepted member 2"), (2, "accepted key 1"), (3, "accepted closed"), (4, "refused 65 BadValue")])
+    with tempfile.TemporaryDirectory(dir=FAST) as folder:
+        for words in ("init", "member anna keyanna1", "event autumn draughts 60 5"):
+            give(folder, words.split())
+        before = all_rows(folder)
+        check("a file of schema 2 refuses a batch with an arbiter's orders", refused, give(folder, ["batch", "-"], text))
+        with serve(f"{folder}/c.db"):
+            check("so it does beside a server", refused, give(folder, ["batch", "-"], text))
+        check("nothing of the batch is done", before, all_rows(folder))
+        check("the file gets schema 3", (0, "upgraded\n", ""), give(folder, ["upgrade", "--arbiter"]))
+        with serve(f"{folder}/c.db"):
+            check("beside a server the batch is done", (1, done, ""), give(folder, ["batch", "-"], text))
+        again = done.replace("accepted", "repeated")
+        check("the same batch is repeated", (1, again, ""), give(folder, ["batch", "-"], text))
+        message = "error: line 1: a line of a batch reads no standard input\n"
+        check("a line of a batch takes no key from standard input",
+              (2, "", message), give(folder, ["batch", "-"], "key anna 2 -\n"))
+
+
 def no_output(folder):
     with open("/dev/full", "wb") as full:
         ran = subprocess.run([PROGRAM, "--now", "1000", "c.db", "batch", "-"], input=b"member anna keyanna1\n",
@@ -292,6 +315,7 @@ def main():
         bad_lines(folder)
         records(folder)
         no_output(folder)
+    arbiters_orders()
     full_disk()
     return exit_status()
 

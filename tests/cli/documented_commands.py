@@ -5,7 +5,8 @@
 
 FOLDER has the documents; it is the repository if it is not given. The blocks of README.md are one course, from an
 empty folder. Each block of docs/operating.md runs in a folder of its own, in which the club of the example exists, and
-a backup of it before its last command where the block reads one that it does not make. A command begins with `$ ` and
+a backup of it before its last command where the block reads one that it does not make; it has an arbiter where a command of
+the block needs one. A command begins with `$ ` and
 has its output below it, or it is a line of a block of `sh`. A server is started before the first command that connects
 to one, unless a command has started it.
 """
@@ -34,6 +35,7 @@ PORT = "8080"
 CLUB = ["init", "member anna keyanna1", "member bert keybert2", "event autumn draughts 86400 3600",
         "seat g1 autumn anna bert", "move 1 1 32-28"]  # the example of README.md
 BACKUP = "backup.db"
+BY_ARBITER = re.compile(r"ourclub\.db (?:key|close)\b")
 NGINX = re.compile(r"^```nginx\n(.*?)^```$", re.MULTILINE | re.DOTALL)
 CERTIFICATE = re.compile(r"(ssl_certificate(?:_key)? +)\S*/(\S+);")
 # Commands that are not run, by a pattern of their beginning, and the reason.
@@ -217,6 +219,8 @@ def run_commands(commands, is_prepared):
             if words == CLUB[-1] and needs_backup(commands):
                 assert club(f"{folder}/ourclub.db", "backup", f"{folder}/{BACKUP}", now=None)[0] == 0
             assert club(f"{folder}/ourclub.db", *words.split(), now=None)[0] == 0, words
+        if any(BY_ARBITER.search(it.text) for it in commands):
+            assert club(f"{folder}/ourclub.db", "upgrade", "--arbiter", now=None)[0] == 0
         shell = Shell(folder)
         try:
             for command in commands:

@@ -32,7 +32,7 @@ REFUSED = [("games", "--event", "winter"), ("games", "--member", "dora"), ("lega
 NO_JSON = [("init",), ("member", "dora", "keydora4"), ("event", "e", "shogi", 60, 5), ("seat", "g", "fuji", "anna", "bert"),
            ("move", 1, 2, "19-23"), ("sweep",), ("import-pdn", "k", "autumn", "anna", "bert", "-"),
            ("import-csa", "k", "fuji", "anna", "bert", "-"), ("export", 1), ("export-event", "fuji"),
-           ("table", "fuji"), ("verify",), ("upgrade",), ("backup", "d.db"), ("batch", "-"), ("serve", 8080),
+           ("table", "fuji"), ("key", "anna", 1, "keyanna9"), ("close", "fuji"), ("verify",), ("upgrade",), ("backup", "d.db"), ("batch", "-"), ("serve", 8080),
            ("round-robin", "p", "fuji", "anna", "bert")]
 
 

@@ -26,7 +26,8 @@ import time
 sys.path[0] = str(pathlib.Path(__file__).resolve().parents[1])
 from lib import disks
 from lib.club import (
-    Command, FAST, NO_CLUB, TABLES, WAIT, arguments, copy_files, execute, input_of, query, read_rows, start, verify,
+    ARBITERS_TABLES, Command, FAST, NO_CLUB, TABLES, WAIT, arguments, copy_files, execute, input_of, query, read_rows,
+    start, verify,
 )
 from lib.report import exit_status, result
 from lib.server import FAILURES, Request, post, serve
@@ -58,10 +59,13 @@ ENDED = {1: (4, None, None), 2: (12, "Fourfold", "1-1"), 3: (0, "Time", "0-2"), 
 SERVED = {1: (4, "Agreed", "1-1"), 2: (12, "Fourfold", "1-1"), 5: (1, "Resigned", "2-0")}
 
 
+# What a command prints when it is repeated, if that is not its answer as a repeated one.
+AGAIN = {"init": "store 70 Foreign", "upgrade --arbiter": "repeated upgrade", "sweep": "accepted sweep 0"}
+
+
 def command(text, **more):
     words, printed = text.split(" = ")
-    again = "store 70 Foreign" if words == "init" else printed.replace("accepted", "repeated")
-    return Command(words, printed, "accepted sweep 0" if words == "sweep" else again, **more)
+    return Command(words, printed, AGAIN.get(words, printed.replace("accepted", "repeated")), **more)
 
 
 def commands():
@@ -74,6 +78,9 @@ def commands():
     yield command("import-pdn old1 cup anna bert - = accepted game 5", record="evening.pdn")
     yield command("import-csa old2 fuji bert anna - = accepted game 6", record="checkmate.csa")
     yield command("sweep = accepted sweep 2", now=LATE)
+    yield command("upgrade --arbiter = upgraded")
+    yield command("key anna 1 keyanna9 = accepted key 1", now=LATE)
+    yield command("close cup = accepted closed", now=LATE)
 
 
 def requests():
@@ -99,7 +106,7 @@ def requests():
 
 def named(state):
     """Each row of a state with the name of its table."""
-    return {(name, row) for name, held in zip(TABLES, state) for row in held}
+    return {(name, row) for name, held in zip((*TABLES, *ARBITERS_TABLES), state) for row in held}
 
 
 class Wrong(Exception):
@@ -231,7 +238,7 @@ class CommandKiller(Killer):
     def kill(self, folder, step, number):
         """How many commands are stored after one was killed, before which so many were stored."""
         when, printed = self.kill_command(folder, step)
-        is_answered = printed.startswith(("accepted", "repeated", "ready"))
+        is_answered = printed.startswith(("accepted", "repeated", "ready", "upgraded"))
         name = f"{step.words} killed {when}"
         done = self.found(folder, number + is_answered, number + 1, name)
         self.counts["before" if done == number else "after"] += 1

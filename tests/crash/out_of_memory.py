@@ -3,8 +3,8 @@
 
     python3 tests/crash/out_of_memory.py [--each N]
 
-A command runs over a copy of a club once for each of its allocations (or each N-th; of an import, an
-export, a list and a sweep each 11*N-th), with that one failed. After a
+A command runs over a copy of a club once for each of its allocations (or each N-th; of all but a move each 11*N-th),
+with that one failed. After a
 fault the tables are unchanged, what was printed is a beginning of what is expected, and the command succeeds when it is
 repeated (which is tried after each sixty-first). If the program could do without that memory, the command is complete.
 """
@@ -123,6 +123,11 @@ def main():
         check_command("an export", few, "before.db", 1000, club("before.db", "export", 1)[1], "export", 1)
         check_command("a list of games", few, "before.db", 1000, club("before.db", "games")[1], "games")
         check_command("a sweep", few, "later.db", 2000, "accepted sweep 1", "sweep")
+        check_command("an upgrade to schema 3", few, "before.db", 1000, "upgraded", "upgrade", "--arbiter")
+        copy_club("before.db", "arbiter.db")
+        club("arbiter.db", "upgrade", "--arbiter")
+        check_command("a new key", few, "arbiter.db", 1000, "accepted key 1", "key", "anna", 1, "keyanna9")
+        check_command("a closing", few, "arbiter.db", 1000, "accepted closed", "close", "cup")
     return exit_status()
 
 

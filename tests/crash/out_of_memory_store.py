@@ -3,11 +3,11 @@
 
     python3 tests/crash/out_of_memory_store.py [--each N]
 
-A program of tests runs the first course of tests/crash/courses.txt, command by command. Before a command the club is
-closed and opened again. If an allocation of the command fails, the answer is as without a failure, or 73 or 75, never
+A program of tests runs the first course of tests/crash/courses.txt and the first of a club with an arbiter, command by
+command. Before a command the club is closed and opened again. If an allocation of the command fails, the answer is as without a failure, or 73 or 75, never
 another number, and the next call is answered with 74. The command, repeated over the club as it is then, is repeated if
 it was stored, else accepted (a sweep that was stored ends no further game). The same, without the 74, is tested of the
-upgrade of the first database of schema 1 in the script of that program. Of N allocations one fails: N is 7, or 1 for all.
+upgrades of the first database of schema 1 in the script of that program. Of N allocations one fails: N is 7, or 1 for all.
 """
 import concurrent.futures
 import os
@@ -29,9 +29,9 @@ words = sys.argv[1:]
 EACH = int(words.pop()) if "--each" in words and words.remove("--each") is None else 7
 
 
-def commands():
-    """The requests of the script that is stopped, each with its outcome."""
-    found, _, rest = COURSES.read_text(encoding="utf-8").partition("club stopped 1\n")
+def commands(start):
+    """The requests of the script that is stopped and begins so, each with its outcome."""
+    found, _, rest = COURSES.read_text(encoding="utf-8").partition(f"\n{start} stopped 1\n")
     assert found and rest
     for line in rest.splitlines():
         if not line[:1].isdigit():
@@ -57,20 +57,20 @@ def again(outcome):
 class Command:
     """A command after others: its answers if an allocation fails."""
 
-    def __init__(self, room, before, asked, outcome):
+    def __init__(self, room, start, before, asked, outcome):
         self.room, self.asked, self.outcome = room, asked, outcome
         self.kind = asked.split()[2]
-        self.start = ["club", *(f"{line} = {outcome}" for line, outcome in before), "again"]
+        self.start = [start, *(f"{line} = {outcome}" for line, outcome in before), "again"]
         self.given = [f"{asked} = {outcome}"]
         self.rest = [f"alone {asked} = {REOPEN}", f"{asked} = {again(outcome)}"]
         self.closes = True
 
     @classmethod
-    def upgrade(cls, room):
-        """The upgrade of a database in memory."""
-        made = cls(room, [], "memory of upgrade", "upgraded")
-        made.start, made.given = ["database", first_schema()], ["upgrades = upgraded"]
-        made.rest = ["opens = sound", "upgrades = repeated upgrade"]
+    def upgrade(cls, room, words):
+        """The upgrade of a database in memory by `upgrades` or `upgrades arbiter`."""
+        made = cls(room, "database", [], f"memory of {words.replace(' ', '-')}", "upgraded")
+        made.start, made.given = ["database", first_schema()], [f"{words} = upgraded"]
+        made.rest = ["opens = sound", f"{words} = repeated upgrade"]
         made.closes = False  # an upgrade leaves no club that could receive a command
         return made
 
@@ -114,9 +114,10 @@ def main():
         return 0
     with tempfile.TemporaryDirectory() as room:
         build_fail_malloc(room)
-        script = list(commands())
-        tried = [Command(room, script[:at], *script[at]) for at in range(len(script))]
-        tried.append(Command.upgrade(room))
+        tried = [Command.upgrade(room, words) for words in ("upgrades", "upgrades arbiter")]
+        for start in "club", "club arbiter":
+            script = list(commands(start))
+            tried += [Command(room, start, script[:at], *script[at]) for at in range(len(script))]
         with concurrent.futures.ProcessPoolExecutor(os.cpu_count()) as lanes:
             results = list(lanes.map(Command.fail_each, tried))
     kinds, whole = {}, 0

@@ -77,6 +77,15 @@ def command(name, words, printed, sql, before, after, **more):
 def command_cases():
     init = Command("init", "ready", "store 70 Foreign")
     yield Case("init", (init,), "SELECT schema, last FROM meta", None, (2, 0), files="nothing")
+    init = Command("init --arbiter", "ready", "store 70 Foreign")
+    yield Case("init --arbiter", (init,), "SELECT schema, last FROM meta", None, (3, 0), files="nothing")
+    upgrade = Command("upgrade --arbiter", "upgraded", "repeated upgrade")
+    yield Case("upgrade --arbiter", (upgrade,), "SELECT schema FROM meta", (2,), (3,))
+    key = Command("key anna 1 keyanna9", "accepted key 1", "repeated key 1")
+    keys = "SELECT number, key FROM keys WHERE member = 1"
+    yield Case("key", (key,), keys, None, (1, "keyanna9"), files="arbiter")
+    close = Command("close cup", "accepted closed", "repeated closed")
+    yield Case("close", (close,), "SELECT event, moment FROM closings", None, (1, 1000), files="arbiter")
     yield command("member", "member dora keydora4", "accepted member 4", COUNT.format("members"), (3, 3), (4, 4))
     yield command("event", "event open draughts 3600 10", "accepted event 4", COUNT.format("events"), (3, 3), (4, 4))
     yield command("seat", "seat d3 cup cara bert", "accepted game 7", COUNT.format("games"), (6, 6), (7, 7))
@@ -131,8 +140,8 @@ def request_cases():
 
 
 def prepared(room, is_full):
-    """The files of a folder before a case, by name: no club, one, and that with other logs."""
-    held = {it: f"{room}/{it}" for it in ("nothing", "base", "alone", "served", "killed", "long")}
+    """The files of a folder before a case, by name: no club, one, that with an arbiter, and that with other logs."""
+    held = {it: f"{room}/{it}" for it in ("nothing", "base", "arbiter", "alone", "served", "killed", "long")}
     for folder in held.values():
         os.mkdir(folder)
     turns = [f"move 2 {ply + 1} {ROOKS[ply % 4]}" for ply in range(11)]
@@ -144,6 +153,8 @@ def prepared(room, is_full):
     assert all(isinstance(it, dict) for it in post_all(held["base"], [offered, *opened]))
     copy_files(held["base"], held["served"])
     assert verify(held["base"]) == "sound"
+    copy_files(held["base"], held["arbiter"])
+    assert execute(held["arbiter"], Command("upgrade --arbiter")) == "upgraded"
     shutil.copyfile(f"{held['base']}/c.db", f"{held['alone']}/c.db")
     copy_files(held["base"], held["killed"])
     post_all(held["killed"], [PLAYED], is_killed=True)

@@ -11,7 +11,7 @@ import tempfile
 
 from lib.club import RECORDS, copy_club, read_tables
 from models.draughts import Refused
-from models.officer import OfficersClub, told_refusal
+from models.officer import Fault, OfficersClub, told_refusal
 
 ROUND = 80
 LAST_MOMENT = 253402300799
@@ -20,7 +20,8 @@ KINDS = {  # the kinds of each command's words
     "seat": ("name", "name", "name", "name"), "import-pdn": ("name", "name", "name", "name", "record"),
     "import-csa": ("name", "name", "name", "name", "record"), "move": ("number", "number", "move"), "sweep": (),
     "legal": ("number",), "export": ("number",), "table": ("name",), "verify": (), "upgrade": (),
-    "members": (), "events": (), "challenges": (), "games": (),  # options come after the last
+    "members": (), "events": (), "challenges": (), "key": ("name", "number", "key"), "close": ("name",),
+    "games": (),  # options come after the last
 }
 JSON_COMMANDS = "legal", "members", "events", "challenges", "games"
 POOLS = {
@@ -41,7 +42,8 @@ POOLS = {
 }
 PLAYERS = "anna", "bert", "cara", "dora"
 COMMANDS = (*KINDS, *("member", "event", "seat", "move", "move", "move", "import-pdn", "import-csa", "legal",
-            "export", "table", "games", "games"))
+            "export", "table", "games", "games", "key", "key"))
+BY_ARBITER = "init", "upgrade"  # which have the flag `--arbiter`
 NAMED, FLAGS = ("--event", "--member"), ("--running", "--overdue")
 ODD_OPTIONS = (*NAMED, *FLAGS, *FLAGS, "--event=", "--member=-a", "--running=1", "--ended", "--over", "--Event", "-",
                "anna")
@@ -66,6 +68,8 @@ def words_of(chance, club):
     words = [chance.choice(POOLS[kind][:8] if chance.random() < 0.75 else POOLS[kind]) for kind in KINDS[command]]
     if chance.random() < 0.8:
         words = likely(chance, club, command, words)
+    if command in BY_ARBITER and chance.random() < 0.15:
+        words.append("--arbiter")
     if command == "import-csa" and chance.random() < 0.4:
         words[:0] = ["--part", chance.choice(POOLS["number"][:4] if chance.random() < 0.8 else POOLS["number"])]
     return [command, *words]
@@ -103,6 +107,13 @@ def likely(chance, club, command, words):
         events = [it["name"] for it in club.events.values() if (it["game"] == "shogi") == (command == "import-csa")]
         key = f"g{chance.randint(1, 5)}"
         return [key, chance.choice(events), *chance.sample(PLAYERS, 2), *words[4:]]
+    if command == "key":
+        name, keys = chance.choice([*club.members.items()])
+        number = max(len(keys) + chance.choice((0, 0, 0, 0, -1, -1, 1)), 0)
+        fresh = f"key{name}{number}{chance.randint(100, 999)}"
+        return [name, str(number), chance.choice((*keys, fresh, fresh, words[2], "-"))]
+    if command == "close":
+        return [chance.choice([*club.events])] if chance.random() < 0.3 else words
     if command in ("legal", "export"):
         return [str(chance.randint(1, len(club.games)))]
     return likely_move(chance, club, words) if command == "move" else words
@@ -203,7 +214,9 @@ def order_of(words):
         if len(values) < 2:
             raise BadWords
         part, values = number_of(values[1]), values[2:]
-    if "--part" in values or "--now" in words or len(values) != len(KINDS[command]):
+    if command in BY_ARBITER and values == ["--arbiter"]:
+        return now, command, values, part, is_json
+    if "--part" in values or "--now" in words or "--arbiter" in values or len(values) != len(KINDS[command]):
         raise BadWords
     values = [number_of(value) if kind == "number" else value for kind, value in zip(KINDS[command], values)]
     if command == "event" and values[1] not in ("draughts", "shogi"):
@@ -213,7 +226,7 @@ def order_of(words):
 
 def is_open(word):
     """Whether a word is an option of which the documents do not say whether it is one."""
-    known = ("-", "--part", "--now", *FLAGS, *NAMED)
+    known = ("-", "--part", "--now", *FLAGS, *NAMED, "--arbiter")
     return word.startswith("-") and word not in known and not word.startswith(tuple(f"{it}=" for it in known[3:]))
 
 
@@ -249,24 +262,35 @@ def record_of(word, standard_input):
         return None
 
 
+def key_in(standard_input):
+    """The key that standard input holds: its beginning without one line end."""
+    text = standard_input[:65537]
+    return text.removesuffix(b"\r\n" if text.endswith(b"\r\n") else b"\n").decode(errors="replace")
+
+
 def printed(club, order, standard_input):
     """The status, standard output and standard error."""
     club.moment, command, values, part, is_json = order
     acts = {"member": club.add_member, "event": club.add_event, "seat": club.add_seat, "move": club.do_officers_move,
             "sweep": club.do_sweep, "legal": club.do_list, "export": club.do_export, "table": club.do_table,
-            "verify": club.do_verify, "upgrade": club.do_upgrade, "members": club.do_members,
+            "verify": club.do_verify, "upgrade": club.do_upgrade, "members": club.do_members, "key": club.add_key,
+            "close": club.do_close,
             "events": club.do_events, "challenges": club.do_challenges, "games": club.do_games}
     if command.startswith("import-"):
         text = record_of(values[-1], standard_input)
         if text is None:
             return 3, "", "store 76 Input\n"
         values = [command.removeprefix("import-"), part, *values[:-1], text]
+    if command == "key" and values[-1] == "-":
+        values = [*values[:-1], key_in(standard_input)]
     if command == "init":
         return 3, "", "store 70 Foreign\n"
     try:
         return 0, club.json_of(command, values) if is_json else acts.get(command, club.add_record)(*values), ""
     except Refused as refusing:
         return 1, "", told_refusal(refusing)
+    except Fault as fault:
+        return 3, "", f"store {fault}\n"
 
 
 def is_silent_but(got, status):

@@ -20,7 +20,7 @@ FIELDS = ("Host: b", "host:", "HOST: a", "Transfer-Encoding: chunked", "transfer
           "X: \x7f", "X: \x00", "X: \x01", "X: \udcff", "X:", "X:\t", "Cookie: a=b", "X-Member-Key: keyanna1",
           "Member-Key : keyanna1", "X: a\rb", "Member_Key: keyanna1", "Upgrade: h2c")
 KEYS = ("keyanna1", "keybert2", "keycara3", "KEYANNA1", "keyanna", "keyanna11", "", "key anna1", "\"keyanna1\"",
-        "keyanna1,keyanna1", " \tkeyanna1\t ", "keyann\u00e1", "1", "keyanna1\x00")
+        "keyanna1,keyanna1", " \tkeyanna1\t ", "keyann\u00e1", "1", "keyanna1\x00", "keybert0")
 ENDS = "\r\n", "\n", "\r", "\r\r\n", "\n\r", "\r\n\r\n", "\x0b", "\x00\n"
 NUMBERS = ("0", "1", "2", "3", "000000001", "0000000001", "999999999", "1000000000", "-1", "+1", "1.0", "", "x",
            "\u0661", "9999")

@@ -14,7 +14,7 @@ import subprocess
 import tempfile
 
 from models import draughts, shogi
-from fuzz.server import MEMBERS, logged_server, order
+from fuzz.server import logged_server, order
 from models.draughts import Refused
 from fuzz.http import ask
 from lib.club import RECORDS
@@ -38,6 +38,7 @@ NAME, KEY = re.compile(r"[A-Za-z0-9._-]{1,24}"), re.compile(r"[A-Za-z0-9]{8,64}"
 LAST_MOMENT = 253402300799
 LARGEST = 2 ** 63 - 1
 RULES = draughts, shogi
+MEMBERS = ("anna", "keyanna1"), ("bert", "keybert2"), ("cara", "keycara3")
 POINTS = {"2-0": (2, 0), "1-1": (1, 1), "0-2": (0, 2)}
 
 

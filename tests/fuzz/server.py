@@ -19,7 +19,8 @@ MOMENT = 2000
 BATCH = 250
 PATIENCE = 8  # seconds; if this machine is slower to send than the server waits, the request is sent again
 ROUND = 3000
-MEMBERS = ("anna", "keyanna1"), ("bert", "keybert2"), ("cara", "keycara3")
+MEMBERS = ("anna", "keyanna1"), ("bert", "keybert0"), ("cara", "keycara3")
+LATER_KEY = "keybert2"  # of bert
 EVENTS = ("autumn", "draughts", 86400, 5), ("fuji", "shogi", 86400, 0), ("short", "draughts", 60, 0)
 LOGGED = re.compile(rb"%d [!-~\x80-\xff]+ [!-~\x80-\xff]+ ((?:[0-9]{3}|-) [!-~]+)" % MOMENT)
 SEATS = "autumn anna bert", "fuji anna bert", "short bert anna", "autumn cara anna", "fuji bert cara", "short anna bert"
@@ -33,7 +34,8 @@ def order(program, file, moment, *words):
 def begun(program, file):
     """A club in a new file, and what it must be."""
     club = Club(MOMENT)
-    order(program, file, 1000, "init")
+    club.has_arbiter = True
+    order(program, file, 1000, "init", "--arbiter")
     for member in MEMBERS:
         order(program, file, 1000, "member", *member)
         club.member(*member)
@@ -43,6 +45,10 @@ def begun(program, file):
     for number, words in enumerate(SEATS, 1):
         order(program, file, 1000, "seat", f"g{number}", *words.split())
         club.seat(f"g{number}", *words.split(), 1000)
+    order(program, file, 1000, "key", "bert", 1, LATER_KEY)
+    club.members["bert"].append(LATER_KEY)
+    order(program, file, 1000, "close", "short")
+    club.closings["short"] = 1000
     club.last = 1000
     return club
 

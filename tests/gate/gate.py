@@ -176,8 +176,8 @@ def planned(tasks, rows):
             found[key] = waits, lines * SECONDS_A_LINE, needs, call
             continue
         seconds = row[("proof", "tests", "edits").index(kind)]
-        # another machine and other sources take up to 1.6 times the memory
-        found[key] = waits, seconds, min(needs, 1.6e9 * row[4] + 0.5e9), call
+        # on another machine the peaks were the same; changed sources take up to a quarter more
+        found[key] = waits, seconds, min(needs, 1.25e9 * row[4] + 0.3e9), call
     return found
 
 

@@ -24,6 +24,7 @@ SCRIPTS = TOP / "crates/scripts/out/scripts"
 PERFT = TOP / "crates/perft/out/perft"
 
 TABLES = "meta members events event_rules challenges moves games seen scores".split()
+ARBITERS_TABLES = "keys", "rulings", "closings"  # of schema 3
 BESIDE = "", "-wal", "-shm", "-journal"  # the suffixes of a database's files
 FAST = "/dev/shm" if os.access("/dev/shm", os.W_OK) else None  # a folder in which fsync takes no time
 RUNS, IDLE_RUN = 20, 0.003  # seconds of a command that does nothing, on an idle machine
@@ -177,11 +178,18 @@ def change(file, sql):
         database.executescript(sql)
 
 
+def rows_by_table(database):
+    """The rows of each table of a club, by its name."""
+    found = [name for name, in database.execute("SELECT name FROM sqlite_master WHERE type = 'table'")]
+    tables = [*TABLES, *(it for it in ARBITERS_TABLES if it in found)]
+    return {it: database.execute(f"SELECT * FROM {it} ORDER BY 1, 2").fetchall() for it in tables}
+
+
 def read_tables(file):
     """All rows of each table, over a copy; or the error of sqlite3."""
     with copy_of(file) as database:
         try:
-            return {it: database.execute(f"SELECT * FROM {it} ORDER BY 1, 2").fetchall() for it in TABLES}
+            return rows_by_table(database)
         except sqlite3.Error as error:
             return str(error)
 
@@ -192,7 +200,7 @@ def read_rows(folder):
         return NO_CLUB
     with copy_of(f"{folder}/c.db") as database:
         try:
-            rows = [database.execute(f"SELECT * FROM {it} ORDER BY 1, 2").fetchall() for it in TABLES]
+            rows = list(rows_by_table(database).values())
             integrity = database.execute("PRAGMA integrity_check").fetchall()
         except sqlite3.Error as error:
             return str(error)

@@ -20,7 +20,7 @@ WAIT = 120  # seconds at most for the end of a program under strace
 DRAWN = 6  # subsets, and values of one byte, that are drawn by chance
 LINE = re.compile(r"\d+ +(\w+)\((.*)\) += (-?\d+|\?|0x[0-9a-f]+)(?: .*)?")
 TEXT = re.compile(r'"((?:\\x[0-9a-f]{2})*)"(\.\.\.)?')
-ANSWERS = b"accepted", b"repeated", b"ready", b"sound", b"HTTP/1."
+ANSWERS = b"accepted", b"repeated", b"ready", b"upgraded", b"sound", b"HTTP/1."
 KNOWN = "openat close write pwrite64 ftruncate fsync fdatasync fcntl sendto mmap link unlink".split()
 # Calls that may change files as well. The program makes none of them; one that is made is an error.
 OTHERS = """open creat writev pwritev pwritev2 truncate fallocate sync_file_range sync syncfs msync unlinkat

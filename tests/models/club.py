@@ -19,7 +19,7 @@ NAMES = {
     50: "UnknownKey", 51: "NotAllowed", 52: "UnknownEvent", 53: "UnknownGame", 54: "UnknownChallenge",
     55: "NotAPlayer", 56: "GameOver", 57: "WrongPly", 58: "Conflict", 59: "NotYourTurn", 60: "OutOfTime",
     61: "TimeLeft", 62: "NoOffer", 63: "NotInThisGame", 64: "NameTaken", 65: "BadValue", 66: "Full",
-    67: "NotDeclarable",
+    67: "NotDeclarable", 68: "EventClosed",
     80: "BadHead", 81: "BadBody", 82: "NoRoute", 83: "WrongMethod", 84: "NoLength", 85: "TooLong", 86: "HeadTooLong",
     87: "NotImplemented", 88: "BadHost",
 }
@@ -238,11 +238,16 @@ class Game:
 
 class Club:
     def __init__(self, moment):
-        self.moment, self.keys, self.events, self.games, self.challenges = moment, {}, {}, [], {}
-        self.last = 0
+        self.moment, self.members, self.events, self.games, self.challenges = moment, {}, {}, [], {}
+        self.last, self.has_arbiter, self.closings = 0, False, {}  # the events that are closed, with their timestamps
+
+    @property
+    def keys(self):
+        """The members' names by the keys that they have now, in the order of ids."""
+        return {keys[-1]: name for name, keys in self.members.items()}
 
     def member(self, name, key):
-        self.keys[key] = name
+        self.members[name] = [key]
 
     def event(self, name, game, budget, increment):
         self.events[name] = {"name": name, "game": game, "budget": budget, "increment": increment}
@@ -333,16 +338,20 @@ class Club:
     def do_standings(self, _, name):
         event = self.event_of(name)
         games = [(*it.players, it.result) for it in self.games_in(event)]
-        return {"event": event["name"], "kind": event["game"], "standings": standings([*self.keys.values()], games)}
+        return {"event": event["name"], "kind": event["game"], "standings": standings([*self.members], games)}
 
     def do_inviting(self, member):
-        events = [{"budget": it["budget"], "event": it["name"], "game": it["game"], "increment": it["increment"]}
-                  for it in self.events.values()]
-        return {"events": events, "members": [it for it in self.keys.values() if it != member]}
+        events = [{"budget": it["budget"], "event": it["name"], "game": it["game"], "increment": it["increment"],
+                   "open": it["name"] not in self.closings} for it in self.events.values()]
+        return {"events": events, "members": [it for it in self.members if it != member]}
+
+    def must_be_open(self, event):
+        if event in self.closings:
+            raise Refused(68)
 
     def challenges_in_order(self):
         """The challengers' names and the numbers of all challenges, by the challenger's id and by the number."""
-        ids = {name: at for at, name in enumerate(self.keys.values())}
+        ids = {name: at for at, name in enumerate(self.members)}
         return sorted(self.challenges, key=lambda it: (ids[it[0]], it[1]))
 
     def do_me(self, member):
@@ -397,8 +406,9 @@ class Club:
         if not found or found["asked"] != asked:
             if found:
                 raise Refused(58)
-            if not 1 <= number <= 9999 or rival not in self.keys.values() or rival == member:
+            if not 1 <= number <= 9999 or rival not in self.members or rival == member:
                 raise Refused(65)
+            self.must_be_open(event)
             self.challenges[member, number] = {"asked": asked, "state": "open", "game": None}
         return {"challenge": number, "state": "open"}
 
@@ -420,6 +430,7 @@ class Club:
             raise Refused(58)
         if accept and found["state"] == "open":
             event, _, first = found["asked"]
+            self.must_be_open(event)
             sides = (challenger, member) if first else (member, challenger)
             found["game"] = self.seat(None, event, *sides, self.moment).number
         found["state"] = state
@@ -435,7 +446,7 @@ class Club:
                     row = met.setdefault(game.players[side], {})
                     row.setdefault(game.players[1 - side], []).append(points)
         sums = {member: [points for some in row.values() for points in some] for member, row in met.items()}
-        order = sorted(met, key=lambda it: (-sum(sums[it]), -sums[it].count(2), [*self.keys.values()].index(it)))
+        order = sorted(met, key=lambda it: (-sum(sums[it]), -sums[it].count(2), [*self.members].index(it)))
         lines = [f"Event {event['name']}"]
         for rank, member in enumerate(order, 1):
             points = sums[member]
@@ -456,7 +467,7 @@ class Club:
 
     def rows(self):
         """All rows that sqlite3 must read of the club."""
-        members = {name: number for number, name in enumerate(self.keys.values(), 1)}
+        members = {name: number for number, name in enumerate(self.members, 1)}
         events = {name: number for number, name in enumerate(self.events, 1)}
         games = [(it.number, it.key, events[it.event["name"]], *(members[name] for name in it.players), it.start,
                   it.since, it.plies(), *it.left, *(it.offer or (None, None)), it.end, it.result,
@@ -467,10 +478,19 @@ class Club:
                  for game in self.games for moment, reply in zip(game.moments, game.replies)]
         seen = [(game.number, position, *counted) for game in self.games
                 for position, counted in game.line.seen.items()]
-        return {"meta": [(1, 2, self.last)], "members": [(number, name, key) for number, (key, name)
-                                                         in enumerate(self.keys.items(), 1)],
+        return {"meta": [(1, 3 if self.has_arbiter else 2, self.last)],
+                "members": [(members[name], name, keys[0]) for name, keys in self.members.items()],
                 "events": [(number, it["name"], int(it["game"] == "shogi"), it["budget"], it["increment"])
                            for number, it in enumerate(self.events.values(), 1)],
                 "event_rules": [(number, 1) for number in events.values()],
                 "challenges": sorted(challenges), "moves": moves, "games": games, "seen": sorted(seen),
-                "scores": self.scores(events, members)}
+                "scores": self.scores(events, members)} | self.arbiters_rows(events, members)
+
+    def arbiters_rows(self, events, members):
+        """The rows of the further tables that a club with an arbiter has."""
+        if not self.has_arbiter:
+            return {}
+        keys = [(members[name], number, key) for name, keys in self.members.items()
+                for number, key in enumerate(keys[1:], 1)]
+        closings = sorted((events[it], moment) for it, moment in self.closings.items())
+        return {"keys": keys, "rulings": [], "closings": closings}

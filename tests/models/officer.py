@@ -21,6 +21,10 @@ def bad_text(number, text):
     return Refused(number, next(size for size in range(len(data), -1, -1) if begins.fullmatch(data[:size])))
 
 
+class Fault(Exception):
+    """A command is not executed, for the fault that is printed."""
+
+
 def told_refusal(refusing):
     number, *more = refusing.args
     return " ".join(map(str, ("refused", number, NAMES[number], *more))) + "\n"
@@ -56,26 +60,63 @@ class OfficersClub(Club):
     def do_init(self):
         return "ready\n"
 
-    def do_upgrade(self):
-        return "repeated upgrade\n"
+    def do_upgrade(self, *flags):
+        if "--arbiter" not in flags or self.has_arbiter:
+            return "repeated upgrade\n"
+        self.has_arbiter = True
+        return "upgraded\n"
 
     def do_verify(self):
         return "sound\n"
 
     def add_member(self, name, key):
-        if self.keys.get(key) == name:
+        if name in self.members and self.members[name][0] == key:
             return f"repeated member {self.member_id(name)}\n"
-        if name in self.keys.values() or key in self.keys:
+        if name in self.members or self.was_given(key):
             raise Refused(64)
         if not NAME.fullmatch(name) or not KEY.fullmatch(key):
             raise Refused(65)
-        if len(self.keys) >= 200:
+        if len(self.members) >= 200:
             raise Refused(66)
         self.member(name, key)
         return self.accepted(f"member {self.member_id(name)}")
 
     def member_id(self, name):
-        return [*self.keys.values()].index(name) + 1
+        return [*self.members].index(name) + 1
+
+    def was_given(self, key):
+        """Whether a member has or had the key."""
+        return any(key in keys for keys in self.members.values())
+
+    def must_have_arbiter(self):
+        if not self.has_arbiter:
+            raise Fault("71 Schema 2")
+
+    def add_key(self, name, number, key):
+        self.must_have_arbiter()
+        keys = self.members.get(name)
+        if keys is None:
+            raise Refused(65)
+        if 1 <= number < len(keys):
+            if keys[number] == key:
+                return f"repeated key {number}\n"
+            raise Refused(58)
+        if self.was_given(key):
+            raise Refused(64)
+        if not KEY.fullmatch(key) or number != len(keys):
+            raise Refused(65)
+        if number > 99:
+            raise Refused(66)
+        keys.append(key)
+        return self.accepted(f"key {number}")
+
+    def do_close(self, event):
+        self.must_have_arbiter()
+        self.event_of(event)
+        if event in self.closings:
+            return "repeated closed\n"
+        self.closings[event] = self.now()
+        return self.accepted("closed")
 
     def add_event(self, name, game, budget, increment):
         asked = {"name": name, "game": game, "budget": budget, "increment": increment}
@@ -97,7 +138,7 @@ class OfficersClub(Club):
     def must_be_free(self, key, first, second):
         if self.keyed(key):
             raise Refused(58)
-        known = self.keys.values()
+        known = self.members
         if not NAME.fullmatch(key) or first not in known or second not in known or first == second:
             raise Refused(65)
 
@@ -167,13 +208,18 @@ class OfficersClub(Club):
         return self.table(self.event_of(name))
 
     def do_members(self):
-        return "".join(f"member {number} {name}\n" for number, name in enumerate(self.keys.values(), 1))
+        lines = []
+        for number, (name, keys) in enumerate(self.members.items(), 1):
+            lines.append(f"member {number} {name}" + (f" key {len(keys) - 1}" if len(keys) > 1 else "") + "\n")
+        return "".join(lines)
 
     def do_events(self):
         lines = []
         for number, event in enumerate(self.events.values(), 1):
             ends = [game.end for game in self.games if game.event is event]
-            lines.append(f"event {number} {' '.join(map(str, event.values()))} {len(ends)} {ends.count(None)}\n")
+            closed = " closed" if event["name"] in self.closings else ""
+            values = " ".join(map(str, event.values()))
+            lines.append(f"event {number} {values} {len(ends)} {ends.count(None)}{closed}\n")
         return "".join(lines)
 
     def do_challenges(self):
@@ -190,7 +236,7 @@ class OfficersClub(Club):
 
     def games_listed(self, event, member, flag):
         games = self.games if event is None else self.games_in(self.event_of(event))
-        if member is not None and member not in self.keys.values():
+        if member is not None and member not in self.members:
             raise Refused(65)
         is_shown = {None: lambda it: True, "--running": lambda it: not it.end,
                     "--overdue": lambda it: not it.end and self.now() > it.deadline()}[flag]
@@ -206,7 +252,7 @@ class OfficersClub(Club):
                                   "challenges": self.challenge_objects}[command]()})
 
     def member_objects(self):
-        return [*self.keys.values()]
+        return [*self.members]
 
     def event_objects(self):
         found = []
@@ -214,7 +260,7 @@ class OfficersClub(Club):
             ends = [it.end for it in self.games_in(event)]
             found.append({"budget": event["budget"], "event": event["name"], "game": event["game"],
                           "games": len(ends), "id": number, "increment": event["increment"],
-                          "running": ends.count(None)})
+                          "open": event["name"] not in self.closings, "running": ends.count(None)})
         return found
 
     def challenge_objects(self):

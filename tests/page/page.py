@@ -19,7 +19,7 @@ import urllib.request
 import page_browser
 import page_firefox
 from page_games import (
-    by_keyboard, by_screen_reader, by_touch, challenges, choices, claim, clocks, declaration, dragging,
+    by_keyboard, by_screen_reader, by_touch, challenges, choices, claim, clocks, closed_event, declaration, dragging,
     draughts_game, ends_meanwhile, lost_replies, offer, preview, record, refused_move, resignation, shogi_game,
     stepping, tried, unsent_move,
 )
@@ -38,8 +38,8 @@ from page_shogi import marks_of_shogi, written_in_japan
 YOKOFUDORI = "7g7f 3c3d 2g2f 8c8d 2f2e 8d8e 6i7h 4a3b 2e2d 2c2d 2h2d 8e8f 8g8f 8b8f".split()
 CASES = [
     wrong_key, odd_keys, other_name, kept_key, draughts_game, shogi_game, choices, next_game, resignation, refused_move,
-    offer, challenges,
-    ends_meanwhile, shut_club, silent_desk, lost_replies, claim, declaration, home, requests, notices, installed, many_games,
+    offer, challenges, closed_event, ends_meanwhile,
+    shut_club, silent_desk, lost_replies, claim, declaration, home, requests, notices, installed, many_games,
     above_the_fold, written_in_japan, whole_texts, empty_club, preview, unsent_move, nowhere, marks_of_shogi,
     clocks, motion, still, contrast, dragging, by_keyboard, by_screen_reader,
     by_touch, stepping, tried, record, tables, languages, on_a_phone, on_its_side, policy, light_and_dark, nothing_forbidden,

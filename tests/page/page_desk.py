@@ -138,7 +138,7 @@ class Club:
 
     def terms(self):
         kept = [(it["budget"], it["name"], GAMES[it["game"]], it["increment"]) for it in self.events.values()]
-        events = [dict(zip(("budget", "event", "game", "increment"), it)) for it in kept]
+        events = [dict(zip(("budget", "event", "game", "increment"), it)) | {"open": True} for it in kept]
         return {"events": events, "members": [it for it in self.members.values() if it != self.me["name"]]}
 
     def rows_of(self, event):

@@ -6,7 +6,7 @@ import time
 
 import page_desk
 from page_room import (
-    ask_first, attempt, board, club, come_back, confirm, KEYS, move, of_fen, play, played, says, square, stored,
+    ask_first, attempt, board, club, come_back, confirm, DAY, KEYS, move, of_fen, play, played, says, square, stored,
     stored_moves, told, TOP, verdict,
 )
 from page_shared import AMBIGUOUS, OPENINGS, PHONE, WHOLE_SHOGI
@@ -193,6 +193,26 @@ def challenges(room):
     verdict("one is withdrawn", True, cara.until("!document.querySelector('#challenges button')"))
     cara.click("#challenges a")
     told("its game can be played", cara, "#state", "Your turn")
+
+
+def closed_event(room):
+    """An event that is closed to challenges: it cannot be chosen, and a challenge into it can only be declined."""
+    club("event", "league", "draughts", str(7 * DAY), str(DAY))
+    room.post("cara", "challenges/795", {"event": "league", "first": True, "other": "king"})
+    late = room.member("cara")
+    choose = "document.getElementById('cup').value = 'league'; document.getElementById('other').value = 'bert'; null"
+    late.value(choose)
+    club("close", "league")
+    late.click("#challenge button")
+    told("a challenge that comes too late is refused in words", late, "#wrong", "Closed to challenges")
+    king = room.member("king")
+    told("the closed event is marked", king, "#events li:last-child", "Closed to challenges")
+    choices = "[...document.querySelectorAll('#cup option')].map((it) => it.value)"
+    verdict("and is no choice", ["autumn", "flash", "fuji"], sorted(king.value(choices)))
+    buttons = "[...document.querySelectorAll('#challenges li.mine button')].map((it) => it.innerText)"
+    verdict("its challenge can be declined only", ["Decline"], king.value(buttons))
+    king.click_words("#challenges button", "Decline")
+    verdict("and is declined", True, king.until("!document.querySelector('#challenges button')"))
 
 
 def ends_meanwhile(room):

@@ -45,7 +45,7 @@ class Room:
 
     def __init__(self, opened):
         self.browser, self.pages, self.faults, self.asked = opened, [], [], []
-        club("init")
+        club("init", "--arbiter")
         for name, key in KEYS.items():
             club("member", name, key)
         for words in f"autumn draughts {7 * DAY} {DAY}", f"fuji shogi {7 * DAY} {DAY}", "flash draughts 1 0":

@@ -3,6 +3,7 @@
 The program says which moves are legal, and that one of them ends its game; tests/models has the position after them.
 Clocks, lists and each text are computed here.
 """
+import collections
 import dataclasses
 import datetime
 import json
@@ -15,7 +16,7 @@ from models.standings import standings
 LAST_MOMENT = 253402300799
 RULES = {"draughts": draughts, "shogi": shogi}
 OUTSIDE_ENDS = "Resigned", "Agreed", "Time", "Declared", "Recorded"  # that no move makes
-NAMES = {50: "UnknownKey", 52: "UnknownEvent", 53: "UnknownGame", 65: "BadValue", 72: "Damaged", 82: "NoRoute",
+NAMES = {50: "UnknownKey", 52: "UnknownEvent", 53: "UnknownGame", 65: "BadValue", 68: "EventClosed", 72: "Damaged", 82: "NoRoute",
          83: "WrongMethod"}  # of the refusals that a question may have
 PHRASES = {200: "OK", 401: "Unauthorized", 404: "Not Found", 405: "Method Not Allowed", 503: "Service Unavailable"}
 STATUSES = {50: 401, 52: 404, 53: 404, 72: 503, 82: 404, 83: 405}
@@ -37,6 +38,7 @@ class Event:
     game: str
     budget: int
     increment: int
+    closed: bool = False
 
 
 @dataclasses.dataclass
@@ -101,6 +103,7 @@ class Game:
 class Club:
     def __init__(self):
         self.keys, self.events, self.games, self.challenges = {}, {}, [], {}
+        self.later_keys = collections.Counter()  # how many a member was given after the first
         self.last = 0
 
     # ---- what was ordered
@@ -113,6 +116,17 @@ class Club:
     def add_member(self, name, key, moment):
         self.accepted(moment)
         self.keys[name] = key
+
+    def new_key(self, name, key, moment):
+        """The number of the key."""
+        self.accepted(moment)
+        self.keys[name] = key
+        self.later_keys[name] += 1
+        return self.later_keys[name]
+
+    def close_event(self, name, moment):
+        self.accepted(moment)
+        self.events[name].closed = True
 
     def add_event(self, name, game, budget, increment, moment):
         self.accepted(moment)
@@ -162,15 +176,17 @@ class Club:
             return 1, "", f"refused {number} {NAMES[number]}\n"
 
     def members_listed(self):
-        return lined(f"member {number} {name}" for number, name in enumerate(self.keys, 1))
+        keys = {it: f" key {count}" for it, count in self.later_keys.items()}
+        return lined(f"member {number} {name}{keys.get(name, '')}" for number, name in enumerate(self.keys, 1))
 
     def events_listed(self):
         return lined(self.event_line(number, it) for number, it in enumerate(self.events.values(), 1))
 
     def event_line(self, number, event):
         ends = [it.end for it in self.games if it.event is event]
-        counts = len(ends), ends.count(None)
-        return " ".join(map(str, ("event", number, event.name, event.game, event.budget, event.increment, *counts)))
+        counts, closed = (len(ends), ends.count(None)), ["closed"] * event.closed
+        parts = "event", number, event.name, event.game, event.budget, event.increment, *counts, *closed
+        return " ".join(map(str, parts))
 
     def games_listed(self, options, now):
         games, moment = self.games, self.moment(now)
@@ -241,8 +257,8 @@ class Club:
         return to_json({"games": games[:200], "member": member, "moment": moment, "more": len(games[200:])})
 
     def my_events(self, _, member, moment):
-        events = [{"budget": it.budget, "event": it.name, "game": it.game, "increment": it.increment}
-                  for it in self.events.values()]
+        events = [{"budget": it.budget, "event": it.name, "game": it.game, "increment": it.increment,
+                   "open": not it.closed} for it in self.events.values()]
         return to_json({"events": events, "members": [name for name in self.keys if name != member]})
 
     def event_games(self, words, member, moment):

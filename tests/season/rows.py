@@ -19,10 +19,13 @@ dated AS (
     SELECT *, iif(deadline > 253402300799, NULL, deadline) AS until, "end" IS NULL AS runs,
         "end" IS NULL AND (SELECT moment FROM given) > deadline AS is_late
     FROM named) """
-MEMBERS = "SELECT 'member ' || id || ' ' || name || char(10) AS line FROM members ORDER BY id"
+MEMBERS = """SELECT 'member ' || id || ' ' || name
+    || ifnull(' key ' || (SELECT max(number) FROM keys WHERE member = members.id), '') || char(10) AS line
+FROM members ORDER BY id"""
 EVENTS = """SELECT 'event ' || id || ' ' || name || ' ' || iif(game, 'shogi', 'draughts') || ' ' || budget || ' '
     || increment || ' ' || (SELECT count(*) FROM games WHERE event = events.id) || ' '
-    || (SELECT count(*) FROM games WHERE event = events.id AND "end" IS NULL) || char(10) AS line
+    || (SELECT count(*) FROM games WHERE event = events.id AND "end" IS NULL)
+    || iif(id IN (SELECT event FROM closings), ' closed', '') || char(10) AS line
 FROM events ORDER BY id"""
 GAMES = """SELECT 'game ' || id || ' ' || name || ' ' || white || ' ' || black || ' ' || ifnull("key", '=') || ' ply '
     || plies || iif(runs, ' turn ' || mover || ' until ' ||
@@ -67,7 +70,8 @@ ENDED = """SELECT json_object('games', json((SELECT json_group_array(json(text))
         SELECT count(*) FROM dated WHERE NOT runs AND :member IN (white, black)))) FROM given"""
 INVITING = """SELECT json_object('events', json((SELECT json_group_array(json(text)) FROM (
         SELECT json_object('budget', budget, 'event', name, 'game', iif(game, 'shogi', 'draughts'), 'increment',
-            increment) AS text FROM events ORDER BY id))),
+            increment, 'open', json(iif(id IN (SELECT event FROM closings), 'false', 'true'))) AS text
+        FROM events ORDER BY id))),
     'members', json((SELECT json_group_array(name) FROM (
         SELECT name FROM members WHERE name <> :member ORDER BY id))))"""
 EVENT_GAMES = """, numbers AS (
@@ -123,6 +127,8 @@ class Rows:
         copy_files(folder, self.room)
         self.found = sqlite3.connect(f"{self.room}/c.db")
         self.held = tables(self.found)
+        for table in {"keys", "closings"} - self.held.keys():  # a club of schema 2 has neither
+            self.found.execute(f"CREATE TEMP TABLE {table} (member, number, event)")
 
     def close(self):
         self.found.close()

@@ -35,6 +35,8 @@ START = int(datetime.datetime(2028, 2, 22, 12, tzinfo=datetime.timezone.utc).tim
 WEEK = 604800
 MEMBERS = {"anna": "keyanna1", "bert": "KEYBERT2", "cara": "0cara0cara", "dora": "keydora4", "E.m_i-l": "emilemil5",
            "fred" + "0123456789" * 2: "fredkey" * 9 + "6"}
+# What an arbiter gives in turn; the last of a member is the one that counts.
+NEW_KEYS = ("bert", "bertsNewKey"), ("bert", "bertsNewerKey"), ("dora", "0dora2dora")
 EVENTS = (("autumn", "draughts", WEEK, 86400), ("fuji", "shogi", 86400, 60), ("blitz", "draughts", 60, 5),
           ("slow.shogi", "shogi", 31536000, 2592000), ("none", "draughts", 1, 0))
 LISTS = [["members"], ["events"], ["games"], ["games", "--running"], ["games", "--overdue"]]
@@ -47,7 +49,8 @@ DAMAGES = (("UPDATE members SET name = 'A b' WHERE id = 1", "members"),
            ("UPDATE events SET budget = 0 WHERE id = 5", "events"),
            ("UPDATE challenges SET state = 3 WHERE state = 0", "challenges"),
            ("UPDATE games SET left2 = left2 + 1 WHERE id = 1", "games"),
-           ("UPDATE meta SET last = 5", "meta"))
+           ("UPDATE meta SET last = 5", "meta"), ("UPDATE keys SET number = 3 WHERE number = 2", "keys"),
+           ("UPDATE closings SET event = 9", "closings"))
 # What is raised if the program ends, does not reply, or prints what cannot be read.
 FAILURES = OSError, RuntimeError, ValueError, LookupError, AssertionError, subprocess.SubprocessError, sqlite3.Error
 
@@ -106,6 +109,14 @@ class Season:
     def add_member(self, now, name, key):
         self.club.add_member(name, key, now)
         self.order(now, ["member", name, key], f"accepted member {len(self.club.keys)}")
+
+    def new_key(self, now, name, key):
+        number = self.club.new_key(name, key, now)
+        self.order(now, ["key", name, str(number), key], f"accepted key {number}")
+
+    def close(self, now, event):
+        self.club.close_event(event, now)
+        self.order(now, ["close", event], "accepted closed")
 
     def add_event(self, now, *event):
         self.club.add_event(*event, now)
@@ -242,7 +253,7 @@ class Season:
 
     def is_silent(self):
         """No key of a member is in any output of the program."""
-        keys = [key.encode() for key in MEMBERS.values()]
+        keys = [key.encode() for key in (*MEMBERS.values(), *(key for _, key in NEW_KEYS))]
         found = [it for it in self.outputs for key in keys if key in it]
         check(f"no key is in {len(self.outputs)} outputs and replies", [], found[:1])
 
@@ -370,6 +381,32 @@ def brought_in(season):
     season.bring_in(START + 120000, "csa", "old_2", "fuji", "bert", "dora", CSA, ["7g7f", "3c3d", "8h2b+", "3a2b"],
                     "0-2")
     season.look("after the imports", START + 120000)
+
+
+def arbitrated(season):
+    """The club gets an arbiter: two members have other keys, and an event is closed while a challenge into it is open."""
+    now = START + 130000
+    with season.server(now) as port:
+        waiting = season.challenge(port, now, "cara", 7, "slow.shogi", "anna", True)
+    season.order(now, ["upgrade", "--arbiter"], "upgraded")
+    season.look("with an arbiter", now)
+    for name, key in NEW_KEYS:
+        season.new_key(now, name, key)
+    season.close(now + 1, "slow.shogi")
+    season.look("with new keys and a closed event", now + 1)
+    old = [*(MEMBERS[name] for name in ("bert", "dora")), NEW_KEYS[0][1]]
+    with season.server(now + 2) as port:
+        compare("an earlier key is nobody's", {it: refusal(50, "/me") for it in old},
+                {it: season.ask(port, it, "GET", "/me") for it in old})
+        closed = {"error": 68, "name": "EventClosed"}
+        challenge = {"event": "slow.shogi", "first": True, "other": "bert"}
+        season.command(port, now + 2, "cara", "/challenges/8", closed, challenge, status=409)
+        season.command(port, now + 2, "anna", "/answers/cara/7", closed, {"accept": True}, status=409)
+        season.reply_to(port, now + 2, waiting, "refused")
+        season.play(port, now + 2, next(it for it in season.club.games if not it.end and it.mover() == "bert"))
+    season.seat(now + 3, "late.1", "slow.shogi", "anna", "bert")
+    season.look("after a game was seated in the closed event", now + 3)
+    season.order(now + 3, ["verify"], "sound")
 
 
 def swept(season):
@@ -558,8 +595,8 @@ def gone_through(parts):
 
 
 def main():
-    gone_through((opened, seated, in_blitz, rounds, challenged, offered, brought_in, analysed, swept, refused,
-                  faulty))
+    gone_through((opened, seated, in_blitz, rounds, challenged, offered, brought_in, arbitrated, analysed, swept,
+                  refused, faulty))
     gone_through((calendar,))
     return exit_status()
 

@@ -338,6 +338,21 @@ def challenge(calls):
     calls.call("getMe", key="bert")
 
 
+def challenge_closed(calls):
+    """A challenge and its acceptance after their event was closed."""
+    good = {"event": "autumn", "first": True, "other": "bert"}
+    members = [f"member {it} {KEYS[it]}" for it in ("anna", "bert")]
+    for words in ("init --arbiter", *members, f"event autumn draughts {BUDGET} 5"):
+        club("closed.db", *words.split())
+    with serve("closed.db", now=NOW) as calls.server:
+        calls.call("openChallenge", body=good, number=1)
+        check("the server closes the event", (0, "accepted closed"), club("closed.db", "close", "autumn", now=NOW))
+        calls.call("openChallenge", 68, body=good, number=2)
+        calls.call("answerChallenge", 68, "bert", {"accept": True}, member="anna", number=1)
+        calls.call("listEvents")
+        calls.call("answerChallenge", key="bert", body={"accept": False}, member="anna", number=1)
+
+
 def fill(file):
     """Makes a club of 5,000 games with one open challenge."""
     create(file)
@@ -388,6 +403,7 @@ def call_all(description):
     with serve("c.db", now=LAST_MOMENT) as calls.server:
         calls.call("getMe")
         calls.call("getClock", id=printed.split()[-1])
+    challenge_closed(calls)
     fill("full.db")
     with serve("full.db", now=1000) as calls.server:
         calls.call("answerChallenge", 66, "bert", {"accept": True}, member="anna", number=1)

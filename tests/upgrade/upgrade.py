@@ -5,7 +5,8 @@
 
 Every other command is refused and changes nothing. The upgrade keeps every row, adds a 0 for each event and the number
 of the schema, and can be repeated; a kill during it leaves the file as it was or upgraded. A king that has entered can
-be declared in an event that is added after it, and not in one from before.
+be declared in an event that is added after it, and not in one from before. `upgrade --arbiter` does the same to schema 3,
+from schema 1 and from schema 2, unless a foreign table has the name of one of the arbiter's.
 """
 import contextlib
 import pathlib
@@ -20,7 +21,7 @@ import time
 
 sys.path[0] = str(pathlib.Path(__file__).resolve().parents[1])
 import lib.club
-from lib.club import DATA, RECORDS, TABLES, command_line
+from lib.club import ARBITERS_TABLES, DATA, RECORDS, TABLES, command_line
 from lib.report import check, exit_status
 from lib.server import Request, post_all
 from models import shogi
@@ -123,16 +124,44 @@ def beside_a_foreign_table(name):
         check(f"{name} with a foreign table accepts a member", 0, club(room, "member", "zoe", "keyzoe99")[0])
 
 
-def schemas_are_one():
+def with_arbiter(name, *steps):
+    """`upgrade --arbiter` from schema 1, or after `upgrade`: every row stays, and the new tables are empty."""
+    with old(name) as room:
+        for words in steps:
+            check(f"`{words}` of {name} succeeds", (0, "upgraded"), club(room, *words.split()))
+        held = after(name)
+        (number, _, last), = held["meta"]
+        expected = held | {"meta": [(number, 3, last)]} | {it: [] for it in ARBITERS_TABLES}
+        check(f"{name} has every row and the arbiter's empty tables", expected, read(f"{room}/c.db", [*TABLES, *ARBITERS_TABLES]))
+        for words, printed in (("verify", "sound"), ("upgrade", "repeated upgrade"), ("upgrade --arbiter", "repeated upgrade"),
+                               ("verify", "sound"), ("key anna 1 keyanna9", "accepted key 1")):
+            check(f"`{words}` of {name} then prints `{printed}`", (0, printed), club(room, *words.split()))
+
+
+def beside_an_arbiters_table(name, table):
+    """A foreign table with a name of the arbiter's: the club can be upgraded to schema 2 only."""
+    with old(name) as room:
+        with contextlib.closing(sqlite3.connect(f"{room}/c.db", isolation_level=None)) as found:
+            found.execute(f"CREATE TABLE {table} (id INTEGER PRIMARY KEY, text TEXT)")
+            found.execute(f"INSERT INTO {table} VALUES (1, 'pays in May')")
+        for words, expected in (("upgrade --arbiter", (3, "store 70 Foreign")), ("verify", (3, "store 71 Schema 1")),
+                                ("upgrade", (0, "upgraded")), ("upgrade --arbiter", (3, "store 70 Foreign")),
+                                ("verify", (0, "sound")), ("key anna 1 keyanna9", (3, "store 71 Schema 2"))):
+            check(f"`{words}` of {name} beside a foreign table {table}", expected, club(room, *words.split()))
+        expected = after(name) | {table: [(1, "pays in May")]}
+        check(f"{name} and its foreign table {table} keep every row", expected, read(f"{room}/c.db", [*TABLES, table]))
+
+
+def schemas_are_one(*words):
     """A file that was upgraded has the schema of one that is made."""
     with old("worked.db") as room, tempfile.TemporaryDirectory() as other:
-        club(room, "upgrade")
-        club(other, "init")
+        club(room, "upgrade", *words)
+        club(other, "init", *words)
         schemas = []
         for it in room, other:
             with contextlib.closing(sqlite3.connect(f"{it}/c.db")) as found:
                 schemas.append(found.execute("SELECT type, name, tbl_name, rootpage, sql FROM sqlite_master").fetchall())
-        check("an upgraded file has the schema of a new one", schemas[1], schemas[0])
+        check(f"a file that `{' '.join(('upgrade', *words))}` made has the schema of a new one", schemas[1], schemas[0])
 
 
 def worked_goes_on():
@@ -192,21 +221,24 @@ def declared():
         check("an upgraded club is sound after a declaration", (0, "sound"), club(room, "verify"))
 
 
-def killed():
-    """Kills during the upgrade: the file has schema 1 with the old rows, or schema 2 with the new ones."""
+def killed(*words):
+    """Kills during the upgrade: the file has schema 1 with the old rows, or the new schema with the new ones."""
     before, chance, counts = rows_before("season.db"), random.Random(2), {"upgraded": 0, "repeated upgrade": 0}
     whole = True
     for _ in range(KILLS):
         with old("season.db") as room:
-            ran = subprocess.Popen(command_line(["c.db", "upgrade"], None), cwd=room, stdout=subprocess.PIPE)
+            ran = subprocess.Popen(command_line(["c.db", "upgrade", *words], None), cwd=room, stdout=subprocess.PIPE)
             time.sleep(chance.random() * 0.06)
             ran.send_signal(signal.SIGKILL)
             answered = bool(ran.communicate()[0])
-            status, again = club(room, "upgrade")
+            status, again = club(room, "upgrade", *words)
             whole &= status == 0 and again in counts and not (answered and again == "upgraded")
             counts[again] = counts.get(again, 0) + 1
-            whole &= read(f"{room}/c.db", TABLES) == after("season.db") and before == rows_before("season.db")
-    check("an upgrade that is killed is atomic", True, whole)
+            held = after("season.db")
+            if words:
+                held["meta"] = [(number, 3, last) for number, _, last in held["meta"]]
+            whole &= read(f"{room}/c.db", TABLES) == held and before == rows_before("season.db")
+    check(f"`{' '.join(('upgrade', *words))}` is atomic if it is killed", True, whole)
     print(f"  {KILLS} kills: {counts}")
 
 
@@ -215,12 +247,18 @@ def main():
         refused_before(name)
         upgraded(name)
         beside_a_foreign_table(name)
+        with_arbiter(name, "upgrade --arbiter")
+        with_arbiter(name, "upgrade", "upgrade --arbiter")
+    for table in ARBITERS_TABLES:
+        beside_an_arbiters_table("season.db", table)
     schemas_are_one()
+    schemas_are_one("--arbiter")
     worked_goes_on()
     for sql, expected in DAMAGED:
         damaged(sql, expected)
     declared()
     killed()
+    killed("--arbiter")
     return exit_status()
 
 

@@ -12,7 +12,7 @@ GAME = re.compile(rf"game (?P<id>[0-9]{{1,9}}) (?P<event>{NAME}) (?P<first>{NAME
                   rf"(?P<key>{NAME}|=) ply (?P<ply>[0-9]{{1,3}}) (?:turn (?P<turn>{NAME}) until (?P<until>never|[0-9TZ:-]{{20}})"
                   rf"|end (?P<end>[A-Za-z]+) (?P<result>2-0|1-1|0-2))")
 EVENT = re.compile(rf"event [0-9]+ (?P<name>{NAME}) (?P<kind>draughts|shogi) (?P<budget>[0-9]+) (?P<increment>[0-9]+)"
-                   r" [0-9]+ [0-9]+")
+                   r" [0-9]+ [0-9]+(?: closed)?")
 WAIT = 120  # seconds in which the program must end
 LAST_MOMENT = 253402300799  # the last second of the year 9999
 

@@ -26,7 +26,7 @@ _club() {
     elif [[ ! $file ]]; then
         _club_files
     elif [[ ! $command ]]; then
-        mapfile -t COMPREPLY < <(compgen -W 'init member event seat import-pdn import-csa move sweep batch round-robin legal show export export-event table members events games challenges verify upgrade backup serve' -- "$current")
+        mapfile -t COMPREPLY < <(compgen -W 'init member event seat import-pdn import-csa move sweep batch round-robin key close legal show export export-event table members events games challenges verify upgrade backup serve' -- "$current")
     elif [[ ${arguments[count]-} == file ]]; then
         _club_files
     elif [[ ${arguments[count]--} != - ]]; then
@@ -36,7 +36,7 @@ _club() {
 
 _club_command() { # COMMAND: sets its options and the kinds of its arguments
     case $1 in
-        init) options='-h --help' valued='' arguments=() ;;
+        init) options='--arbiter -h --help' valued='' arguments=() ;;
         member) options='-h --help' valued='' arguments=('-' '-') ;;
         event) options='-h --help' valued='' arguments=('-' 'draughts shogi' '-' '-') ;;
         seat) options='-h --help' valued='' arguments=('-' '-' '-' '-') ;;
@@ -46,6 +46,8 @@ _club_command() { # COMMAND: sets its options and the kinds of its arguments
         sweep) options='--most -h --help' valued='--most' arguments=() ;;
         batch) options='-h --help' valued='' arguments=('file') ;;
         round-robin) options='--double --dry -h --help' valued='' arguments=('-' '-' '-') ;;
+        key) options='-h --help' valued='' arguments=('-' '-' '-') ;;
+        close) options='-h --help' valued='' arguments=('-') ;;
         legal) options='-h --help' valued='' arguments=('-') ;;
         show) options='--letters -h --help' valued='' arguments=('-') ;;
         export) options='-h --help' valued='' arguments=('-') ;;
@@ -56,7 +58,7 @@ _club_command() { # COMMAND: sets its options and the kinds of its arguments
         games) options='--event --member --running --overdue -h --help' valued='--event --member' arguments=() ;;
         challenges) options='-h --help' valued='' arguments=() ;;
         verify) options='-h --help' valued='' arguments=() ;;
-        upgrade) options='-h --help' valued='' arguments=() ;;
+        upgrade) options='--arbiter -h --help' valued='' arguments=() ;;
         backup) options='-h --help' valued='' arguments=('file') ;;
         serve) options='--log --count --host -h --help' valued='--count --host' arguments=('-') ;;
         *) return 1 ;;

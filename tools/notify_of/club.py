@@ -8,7 +8,7 @@ import tempfile
 
 from common.club import NAME, ClubError, read_events, read_games, read_lines, read_text, run
 
-MEMBER = re.compile(rf"member [0-9]+ (?P<name>{NAME})")
+MEMBER = re.compile(rf"member [0-9]+ (?P<name>{NAME})(?: key [0-9]{{1,2}})?")
 USAGE_ERROR = 2
 # The rows of challenges in a club's file (docs/formats.md), in the form of `--json FILE challenges`.
 ROWS = """

@@ -110,6 +110,19 @@ move_app =
 abbrev pub sweep_app : App
 sweep_app = with_rule (new_app (codes "sweep")) (given_as a_number (codes "N") (codes "most"))
 
+-- subcommand with the flag `--arbiter` only
+abbrev pub by_arbiter_app : Text → App
+by_arbiter_app name = with_rule (new_app name) (flag (codes "ARBITER") (codes "arbiter"))
+
+-- arguments of `key`
+abbrev pub key_app : App
+key_app =
+    with_rule
+    (with_rule
+    (with_rule (new_app (codes "key")) (required (codes "NAME")))
+    (required_as a_number (codes "NUMBER")))
+    (required (codes "KEY"))
+
 -- subcommand with a GAME argument only
 abbrev pub of_game_app : Text → App
 of_game_app name = with_rule (new_app name) (required_as a_number (codes "GAME"))
@@ -202,7 +215,7 @@ with_entries_app games app =
     (with_sub
     (with_sub
     (with_sub
-    (with_sub app (new_app (codes "init")))
+    (with_sub app (by_arbiter_app (codes "init")))
     member_app)
     (event_app games))
     (game_app (codes "seat")))
@@ -219,6 +232,10 @@ with_orders_app app =
     sweep_app)
     batch_app)
     round_robin_app
+
+-- adds the arbiter's subcommands
+abbrev pub with_arbiter_app : App → App
+with_arbiter_app app = with_sub (with_sub app key_app) (of_event_app (codes "close"))
 
 -- adds the subcommands that show games
 abbrev pub with_games_app : App → App
@@ -251,10 +268,12 @@ with_files_app app =
     (with_sub
     (with_sub
     (with_sub app (new_app (codes "verify")))
-    (new_app (codes "upgrade")))
+    (by_arbiter_app (codes "upgrade")))
     backup_app)
     serve_app
 
 -- the grammar of the whole command line, with all subcommands
 abbrev pub club_app : Names → App
-club_app games = with_files_app (with_lists_app (with_games_app (with_orders_app (with_entries_app games program_app))))
+club_app games =
+    with_files_app
+    (with_lists_app (with_games_app (with_arbiter_app (with_orders_app (with_entries_app games program_app)))))

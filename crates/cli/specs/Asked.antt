@@ -16,7 +16,7 @@ use Rattle.club_requests.specs.declared.requests.GameCommand.TheVariants.{Move}
 use Rattle.club_requests.specs.declared.requests.Import.{Import}
 use Rattle.club_requests.specs.declared.requests.Command.{Command}
 use Rattle.club_requests.specs.declared.requests.Command.TheVariants.{AddMember, AddEvent, Seat, OnGame, Sweep}
-use Rattle.club_requests.specs.declared.requests.Command.TheVariants.{Import as ImportOf}
+use Rattle.club_requests.specs.declared.requests.Command.TheVariants.{Import as ImportOf, NewKey, CloseEvent}
 use Rattle.cli.specs.declared.words.Task.{Task}
 use Rattle.club_requests.specs.declared.questions.Listing.{Listing}
 use Rattle.club_requests.specs.declared.questions.Question.{Question}
@@ -116,6 +116,11 @@ AsksCommand name found (ImportOf c) = AsksGiven name found c
 AsksCommand name found (OnGame c) = (name ≡ codes "move") × IsNumberIn found (codes "GAME") 0 c.game
     × AsksMove found c.command
 AsksCommand name found Sweep = name ≡ codes "sweep"
+AsksCommand name found (NewKey c) = (name ≡ codes "key")
+    × (string_bytes c.name ≡ text_in found (codes "NAME")) × IsNumberIn found (codes "NUMBER") 0 c.number
+    × (string_bytes c.key ≡ text_in found (codes "KEY"))
+AsksCommand name found (CloseEvent c) = (name ≡ codes "close")
+    × (string_bytes c.event ≡ text_in found (codes "EVENT"))
 AsksCommand name found _ = ⊥
 
 -- filter for the two flags; none if both are given
@@ -167,10 +172,10 @@ AsksJsonQuestion name found _ = ⊥
 
 -- the subcommand with these arguments is this operation; the commands of a batch are read later
 abbrev pub AsksTask : List ℕ → Found → Task → Type 0
-AsksTask name found Init = name ≡ codes "init"
+AsksTask name found (Init has_arbiter) = (name ≡ codes "init") × IsFlagIn found (codes "ARBITER") has_arbiter
 AsksTask name found (Ask question) = AsksQuestion name found question
 AsksTask name found Verify = name ≡ codes "verify"
-AsksTask name found Upgrade = name ≡ codes "upgrade"
+AsksTask name found (Upgrade has_arbiter) = (name ≡ codes "upgrade") × IsFlagIn found (codes "ARBITER") has_arbiter
 AsksTask name found (Backup path) = (name ≡ codes "backup") × (string_bytes path ≡ text_in found (codes "FILE2"))
 AsksTask name found (Request command) = AsksCommand name found command
     × (name ≡ codes "sweep" → IsNumberGiven found (codes "N") None)
@@ -187,11 +192,17 @@ abbrev pub AsksTaskBy : (is_json : Bool) → List ℕ → Found → Task → Typ
 AsksTaskBy true name found task = AsksJsonTask name found task
 AsksTaskBy false name found task = AsksTask name found task
 
--- source of an import's record
+-- standard input, if KEY is `-`
+abbrev pub key_source : Found → Option (List ℕ)
+key_source found =
+    if bytes_eq (text_in found (codes "KEY")) (codes "-") then Some (text_in found (codes "KEY")) else None
+
+-- source of an import's record or of a new key
 abbrev pub record_word : List ℕ → Found → Option (List ℕ)
 record_word name found =
     if bytes_eq name (codes "import-pdn") || bytes_eq name (codes "import-csa")
-    then Some (text_in found (codes "RECORD")) else None
+    then Some (text_in found (codes "RECORD"))
+    else if bytes_eq name (codes "key") then key_source found else None
 
 -- ---- whole command line: global options and subcommand
 
@@ -255,7 +266,7 @@ IsOther names name = list_any (bytes_eq name) names ≡ false
 abbrev pub command_names : List (List ℕ)
 command_names =
     codes "member" ∷ codes "event" ∷ codes "seat" ∷ codes "sweep" ∷ codes "import-pdn" ∷ codes "import-csa"
-    ∷ codes "move" ∷ []
+    ∷ codes "move" ∷ codes "key" ∷ codes "close" ∷ []
 
 -- names of the other operations
 abbrev pub task_names : List (List ℕ)

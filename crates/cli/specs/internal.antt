@@ -1,5 +1,5 @@
 pub mod App
 pub mod Asked
 pub mod Built
-pub mod Imports
+pub mod Inputs
 pub mod Said

@@ -61,7 +61,7 @@ pub struct RoundRobin {
 pub struct BatchOrder {
     /// The command; the text of an import is still empty.
     pub command: Command,
-    /// The path of an import's record.
+    /// The path of an import's record; `-` if the command reads standard input, which no batch allows.
     pub record: Option<String>,
 }
 

@@ -8,15 +8,17 @@
 //!   `--overdue`, for `--json` with a subcommand whose answer has no JSON, or without memory.
 //! - `batch_of`, `round_robin_of`, `line_of` (`ok`, `err`): the same for batches, round robins and each line of a
 //!   batch.
-//! - `Order::set_record` (`task`, `file`, `now`, `explains`): a record that was read is put into its order, and the
-//!   rest stays.
+//! - `Order::set_record` (`task`, `file`, `now`, `explains`): a record or a key that was read is put into its order,
+//!   and the rest stays.
 #![tactic(auto)]
 
 pub mod batches;
 mod building;
 mod hosts;
+pub mod inputs;
 mod parser;
 pub mod words;
 
 pub use batches::{Batch, BatchOptions, BatchOrder, RoundRobin, read_line};
-pub use words::{BadWords, Invocation, Order, ServeOptions, Task, give_text, read_words};
+pub use inputs::{give_text, strip_line_end};
+pub use words::{BadWords, Invocation, Order, ServeOptions, Task, read_words};

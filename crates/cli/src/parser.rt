@@ -3,13 +3,14 @@
 ghost use Rattle.std.specs.Prelude.{IfOk, codes};
 ghost use Rattle.clap.specs.Words.{App, new_app};
 ghost use Rattle.clap.specs.declared.builder.value_parser.ValueParser.TheVariants as kind;
-ghost use Rattle.cli.specs.App.{Names, a_moment, a_port, are_games, backup_app, batch_app, club_app, event_app};
-ghost use Rattle.cli.specs.App.{game_app, games_app, given_as, import_app, import_csa_app, member_app};
+ghost use Rattle.cli.specs.App.{Names, a_moment, a_port, are_games, backup_app, batch_app, by_arbiter_app, club_app};
+ghost use Rattle.cli.specs.App.{event_app, game_app, games_app, given_as, import_app, import_csa_app, key_app};
+ghost use Rattle.cli.specs.App.{member_app};
 ghost use Rattle.cli.specs.internal.App.{line_app};
 ghost use Rattle.cli.specs.App.{move_app, named_app, of_event_app, of_game_app, program_app};
 ghost use Rattle.cli.specs.internal.App.{named_line_app};
 ghost use Rattle.cli.specs.App.{required_as, required_times, round_robin_app, serve_app, show_app, sweep_app};
-ghost use Rattle.cli.specs.App.{with_entries_app, with_files_app, with_games_app, with_lists_app};
+ghost use Rattle.cli.specs.App.{with_arbiter_app, with_entries_app, with_files_app, with_games_app, with_lists_app};
 ghost use Rattle.cli.specs.App.{with_orders_app, with_round_robin_flags_app};
 ghost use Rattle.cli.specs.internal.Built.{IsApp, IsAppOf, IsRule};
 
@@ -189,6 +190,56 @@ fn move_words<'a>(alloc: Global) -> Result<clap::Command<'a>, AllocError>
     )
 }
 
+fn key_words<'a>(alloc: Global) -> Result<clap::Command<'a>, AllocError>
+    ensures { IfOk result (IsApp key_app) }
+{
+    let words = subcommand(
+        alloc,
+        "key",
+        "Gives a member another key, as after a loss or a theft; from then on no other key is the member's",
+    );
+    let words = with_word(words, word(alloc, "NAME", "The member's name"))?;
+    let words = with_word(
+        words,
+        number(
+            alloc,
+            "NUMBER",
+            "Which of the member's later keys it is: 1 for the first; the same order again is a repeat",
+        ),
+    )?;
+    with_word(
+        words,
+        word(
+            alloc,
+            "KEY",
+            "The new secret: 8 to 64 letters and digits that were nobody's key; '-' reads the standard input",
+        ),
+    )
+}
+
+fn close_words<'a>(alloc: Global) -> Result<clap::Command<'a>, AllocError>
+    ensures { IfOk result (IsApp (of_event_app (codes "close"))) }
+{
+    of_event_words(
+        alloc,
+        "close",
+        "Closes an event to challenges for good; its games and its seats go on",
+    )
+}
+
+// A subcommand with the flag `--arbiter` only.
+fn by_arbiter_words<'a>(
+    alloc: Global,
+    name: &'a str,
+    about: &'a str,
+    help: &'a str,
+) -> Result<clap::Command<'a>, AllocError>
+    ensures { IfOk result (IsApp (by_arbiter_app name.entry.now)) }
+{
+    let words = subcommand(alloc, name, about);
+    with_word(words, flag(alloc, "ARBITER", "arbiter", help))
+}
+
 fn sweep_words<'a>(alloc: Global) -> clap::Command<'a>
     ensures { IsApp (new_app (codes "sweep")) result }
 {
@@ -265,7 +316,7 @@ fn batch_words<'a>(alloc: Global) -> Result<clap::Command<'a>, AllocError>
         alloc,
         "batch",
         "Gives the club many orders in turn, each a line as behind FILE: member, event, seat, move, sweep, \
-         import-pdn, import-csa",
+         import-pdn, import-csa, key, close",
     );
     with_word(
         words,
@@ -496,8 +547,13 @@ fn with_entries<'a>(
 ) -> Result<clap::Command<'a>, AllocError>
     ensures { (app : App) → IsApp app program.entry → IfOk result (IsAppOf (λ games. with_entries_app games app)) }
 {
-    let init = subcommand(alloc, "init", "Makes the tables of a club in an empty file");
-    let program = add_subcommand(program, Ok(init))?;
+    let init = by_arbiter_words(
+        alloc,
+        "init",
+        "Makes the tables of a club in an empty file",
+        "Makes a club of schema 3, which takes the arbiter's orders: key and close",
+    );
+    let program = add_subcommand(program, init)?;
     let program = add_subcommand(program, member_words(alloc))?;
     let event = event_words(alloc)?;
     let program = add_subcommand(program, Ok(event))?;
@@ -517,6 +573,17 @@ fn with_orders<'a>(
     let program = add_subcommand(program, limited_sweep_words(alloc))?;
     let program = add_subcommand(program, batch_words(alloc))?;
     add_subcommand(program, round_robin_words(alloc))
+}
+
+// Adds the arbiter's subcommands.
+fn with_arbiter<'a>(
+    alloc: Global,
+    program: clap::Command<'a>,
+) -> Result<clap::Command<'a>, AllocError>
+    ensures { (app : App) → IsApp app program.entry → IfOk result (IsApp (with_arbiter_app app)) }
+{
+    let program = add_subcommand(program, key_words(alloc))?;
+    add_subcommand(program, close_words(alloc))
 }
 
 // Adds the subcommands that show games.
@@ -594,12 +661,13 @@ fn with_files<'a>(
         "Reads and replays the whole file, and says that it is sound, or which table is damaged",
     );
     let program = add_subcommand(program, Ok(verify))?;
-    let upgrade = subcommand(
+    let upgrade = by_arbiter_words(
         alloc,
         "upgrade",
         "Carries a file of schema 1 over to schema 2, which has the rules of events; copy both files first",
+        "Carries a file of schema 1 or 2 over to schema 3, which takes the arbiter's orders: key and close",
     );
-    let program = add_subcommand(program, Ok(upgrade))?;
+    let program = add_subcommand(program, upgrade)?;
     let program = add_subcommand(program, backup_words(alloc))?;
     add_subcommand(program, serve_words(alloc))
 }
@@ -615,6 +683,7 @@ pub(crate) fn club_words<'a>(alloc: Global) -> Result<clap::Command<'a>, AllocEr
     let program = program(alloc)?;
     let program = with_entries(alloc, program)?;
     let program = with_orders(alloc, program)?;
+    let program = with_arbiter(alloc, program)?;
     let program = with_games(alloc, program)?;
     let program = with_lists(alloc, program)?;
     with_files(alloc, program)
@@ -642,5 +711,7 @@ pub(crate) fn line_words<'a>(alloc: Global) -> Result<clap::Command<'a>, AllocEr
     let words = add_subcommand(words, move_words(alloc))?;
     let words = add_subcommand(words, Ok(sweep_words(alloc)))?;
     let words = add_subcommand(words, import_pdn_words(alloc))?;
-    add_subcommand(words, import_csa_words(alloc))
+    let words = add_subcommand(words, import_csa_words(alloc))?;
+    let words = add_subcommand(words, key_words(alloc))?;
+    add_subcommand(words, close_words(alloc))
 }

@@ -7,20 +7,22 @@ ghost use Rattle.cli.specs.Asked.{Asks, AsksBy, AsksCommand, AsksImport, AsksJso
 ghost use Rattle.cli.specs.Asked.{AsksTask, AsksTaskBy, HasNoJsonTask, HasNoOrderBy};
 ghost use Rattle.cli.specs.Asked.{AreListed, AreShownOf, IsFlagIn, IsMomentIn, IsNumberIn, game_word};
 ghost use Rattle.cli.specs.Asked.{AsksForBoth, HasNoCommand, HasNoGame, HasNoOrder, HasNoService, HasNoTask};
-ghost use Rattle.cli.specs.Asked.{AsksOrder, record_word, text_in, which_of};
+ghost use Rattle.cli.specs.Asked.{AsksOrder, key_source, record_word, text_in, which_of};
 ghost use Rattle.cli.specs.internal.Asked.{HasNoTaskBy, IsTold, IsParserErrorFor};
-ghost use Rattle.cli.specs.internal.Imports.{with_text, task_with};
+ghost use Rattle.cli.specs.internal.Inputs.{IsTaskWith};
 ghost use Rattle.cli.specs.Said.{AreRefused, StatesInvocation};
 ghost use Rattle.cli.specs.internal.Said.{FindsNone, IsFound, IsParserErrorOf};
 
 use crate::batches::{Batch, BatchOptions, RoundRobin, batch_of, round_robin_of, texts};
 use crate::hosts::{are_host_names, bad_host};
+use crate::inputs::give_text;
 use crate::parser::club_words;
 use clap::ArgMatches;
 use clap::error::ErrorKind;
 use clocks::Moment;
 use club_requests::{
-    AddEvent, AddMember, Command, GameCommand, GameFilter, Import, Listing, OnGame, Question, Seat,
+    AddEvent, AddMember, CloseEvent, Command, GameCommand, GameFilter, Import, Listing, NewKey,
+    OnGame, Question, Seat,
 };
 use club_rules::{GameKind, RecordFormat};
 use std::alloc::{AllocError, Global};
@@ -28,8 +30,9 @@ use std::alloc::{AllocError, Global};
 /// The operation that a command line requests.
 #[derive(Debug, Drop)]
 pub enum Task {
-    /// Create the tables of a club in the file.
-    Init,
+    /// Create the tables of a club in the file: those of schema 3, which the arbiter's commands need (`--arbiter`), or
+    /// those of schema 2.
+    Init { has_arbiter: bool },
     /// Execute a command of the officer.
     Request(Command),
     /// End the overdue games, unless there are more than this.
@@ -38,8 +41,8 @@ pub enum Task {
     Ask(Question),
     /// Check that the rows of the file are those of a club.
     Verify,
-    /// Migrate the file from schema 1 to schema 2.
-    Upgrade,
+    /// Migrate the file to schema 3, which the arbiter's commands need (`--arbiter`), or to schema 2.
+    Upgrade { has_arbiter: bool },
     /// Copy the club into a new file at this path, which must not exist.
     Backup(String),
     /// Execute commands of the officer one after another.
@@ -52,25 +55,18 @@ pub struct Order {
     pub file: String,
     pub now: Option<Moment>,
     pub task: Task,
-    /// The source of an import's text: a path, or `-` for standard input. The text in `task` is still empty.
+    /// The source of an import's text or of a new key: a path, or `-` for standard input. Until it is read, the text in
+    /// `task` is empty and the key is `-`.
     pub record: Option<String>,
     /// Explain a refusal or fault on a second line (`--explain`).
     pub explains: bool,
 }
 
-/// Sets the text of the record that was read for a command. Does nothing if the command is no import.
-pub fn give_text(command: &mut Command, text: Vec<u8>)
-    ensures { command.new ≡ with_text text command.old }
-{
-    if let Command::Import(given) = command {
-        given.text = text;
-    }
-}
-
 impl Order {
-    /// Sets the text of the record that was read for an order. Does nothing if the order is no import.
+    /// Sets the text that was read for an order: the record of an import, or the new key that the command line gives as
+    /// `-`. Does nothing for another order.
     pub fn set_record(&mut self, text: Vec<u8>)
-        ensures task { self.new.task ≡ task_with text self.old.task }
+        ensures task { IsTaskWith text self.old.task self.new.task }
         ensures file { self.new.file ≡ self.old.file }
         ensures now { self.new.now ≡ self.old.now }
         ensures source { self.new.«record» ≡ self.old.«record» }
@@ -243,6 +239,24 @@ fn move_of(alloc: Global, words: &ArgMatches<'_>) -> Result<Command, AllocError>
     }))
 }
 
+fn key_of(alloc: Global, words: &ArgMatches<'_>) -> Result<Command, AllocError>
+    ensures { IfOk result (AsksCommand (codes "key") (found_of words.now)) }
+{
+    Ok(Command::NewKey(NewKey {
+        name: text(alloc, words, "NAME")?,
+        number: number_of(words, "NUMBER"),
+        key: text(alloc, words, "KEY")?,
+    }))
+}
+
+fn close_of(alloc: Global, words: &ArgMatches<'_>) -> Result<Command, AllocError>
+    ensures { IfOk result (AsksCommand (codes "close") (found_of words.now)) }
+{
+    Ok(Command::CloseEvent(CloseEvent {
+        event: text(alloc, words, "EVENT")?,
+    }))
+}
+
 // The import that the arguments state, without its text.
 fn import_of(
     alloc: Global,
@@ -278,7 +292,18 @@ fn import_csa_of(alloc: Global, words: &ArgMatches<'_>) -> Result<Command, Alloc
     Ok(Command::Import(import_of(alloc, words, RecordFormat::Csa, part)?))
 }
 
-// The path of an import's record.
+// Standard input, if KEY is `-`.
+fn key_source(alloc: Global, words: &ArgMatches<'_>) -> Result<Option<String>, AllocError>
+    ensures { IfOk result (λ path. option_map string_bytes path ≡ key_source (found_of words.now)) }
+{
+    let key = text(alloc, words, "KEY")?;
+    if key.as_str() == "-" {
+        return Ok(Some(key));
+    }
+    Ok(None)
+}
+
+// The source of an import's record or of a new key.
 pub(crate) fn record_of(
     alloc: Global,
     name: &str,
@@ -289,6 +314,7 @@ pub(crate) fn record_of(
     match name {
         "import-pdn" => Ok(Some(text(alloc, words, "RECORD")?)),
         "import-csa" => Ok(Some(text(alloc, words, "RECORD")?)),
+        "key" => key_source(alloc, words),
         _ => Ok(None),
     }
 }
@@ -310,6 +336,8 @@ pub(crate) fn command_of(
         "import-pdn" => Ok(import_pdn_of(alloc, words)?),
         "import-csa" => Ok(import_csa_of(alloc, words)?),
         "move" => Ok(move_of(alloc, words)?),
+        "key" => Ok(key_of(alloc, words)?),
+        "close" => Ok(close_of(alloc, words)?),
         _ => Err(unknown(alloc, name)),
     }
 }
@@ -407,7 +435,9 @@ fn task_of(alloc: Global, name: &str, words: &ArgMatches<'_>) -> Result<Task, Ba
     ensures err { IfErr result (IsParserErrorFor (HasNoTask name.now (found_of words.now))) }
 {
     match name {
-        "init" => Ok(Task::Init),
+        "init" => Ok(Task::Init {
+            has_arbiter: words.get_flag("ARBITER"),
+        }),
         "legal" => Ok(Task::Ask(Question::LegalMoves(number_of(words, "GAME")))),
         "export" => Ok(Task::Ask(Question::Record(number_of(words, "GAME")))),
         "show" => Ok(Task::Ask(board_of(words))),
@@ -419,7 +449,9 @@ fn task_of(alloc: Global, name: &str, words: &ArgMatches<'_>) -> Result<Task, Ba
         "challenges" => Ok(Task::Ask(Question::Challenges)),
         "sweep" => Ok(sweep_of(words)),
         "verify" => Ok(Task::Verify),
-        "upgrade" => Ok(Task::Upgrade),
+        "upgrade" => Ok(Task::Upgrade {
+            has_arbiter: words.get_flag("ARBITER"),
+        }),
         "backup" => Ok(Task::Backup(text(alloc, words, "FILE2")?)),
         _ => request_of(alloc, name, words),
     }

@@ -4,6 +4,7 @@ mod BoardLemmas
 mod CallLemmas
 mod ChallengeOrder
 pub mod CrossTableLemmas
+mod FoundLemmas
 mod MemberChallenges
 mod OneOrder
 mod OverdueLemmas

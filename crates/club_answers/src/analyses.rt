@@ -6,7 +6,7 @@ ghost use Rattle.std.specs.List.{list_all};
 ghost use Rattle.sqlite.specs.State.{HasCleanDisk};
 ghost use Rattle.sqlite.specs.Held.{state};
 ghost use Rattle.store_tables.specs.Contents.{Content};
-ghost use Rattle.store_tables.specs.Over.{HasRows};
+ghost use Rattle.store_tables.specs.internal.Over.{HasRows};
 ghost use Rattle.store_tables.specs.Reading.{Reads};
 ghost use Rattle.club_requests.specs.Analysis.{analysis_view, in_game};
 ghost use Rattle.club_requests.specs.Limits.{most_text_bytes};

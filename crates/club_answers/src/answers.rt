@@ -1,12 +1,13 @@
 //! The entry point: writes the answer to a query.
 
-ghost use Rattle.std.specs.Prelude.{ℕ, IfOk};
+ghost use Rattle.std.specs.Prelude.{◌≡◌, ℕ, IfOk};
 ghost use Rattle.record_writer.specs.Pieces.{AppendsSome};
 ghost use Rattle.sqlite.specs.State.{HasCleanDisk};
 ghost use Rattle.sqlite.specs.Held.{state};
-ghost use Rattle.store_tables.specs.Over.{HasRows};
+ghost use Rattle.store_tables.specs.internal.Over.{HasRows};
 ghost use Rattle.store_tables.specs.Reading.{Reads};
-ghost use Rattle.club_rows.specs.Club.{ClubState, IsClub, tables};
+ghost use Rattle.club_rows.specs.Club.{ClubState, IsClub, StoresClub, tables};
+ghost use Rattle.club_rows.specs.Tables.{version_of};
 ghost use Rattle.club_answers.specs.internal.Exported.{no_call_failed};
 ghost use Rattle.club_requests.specs.declared.questions.Question.TheVariants as question;
 ghost use Rattle.club_answers.specs.AnswerTexts.{HasWrittenAnswer, HasShownSome};
@@ -21,6 +22,7 @@ use record_writer::write_piece;
 use sqlite::{Alter, Connection};
 use std::alloc::Global;
 use std::io::Write;
+use store_tables::Version;
 
 // Writes a text; after an error the writer has a prefix of it.
 fn write_text<W: Write>(text: &str, writer: &mut W) -> Result<Option<Refusal>, ViewFault>
@@ -54,7 +56,8 @@ fn write_record<S: Alter, W: Write>(
     }
 }
 
-/// Writes the answer to a query at this timestamp, or returns the refusal, and then nothing is written.
+/// Writes the answer to a query to a club of this version at this timestamp, or returns the refusal, and then nothing
+/// is written.
 ///
 /// # Errors
 ///
@@ -67,6 +70,7 @@ fn write_record<S: Alter, W: Write>(
 /// of the records of an event, a prefix of the first records.
 pub fn answer<S: Alter, W: Write>(
     alloc: Global,
+    version: Version,
     conn: &mut Connection<S>,
     question: &Question,
     moment: Moment,
@@ -74,13 +78,13 @@ pub fn answer<S: Alter, W: Write>(
 ) -> Result<Option<Refusal>, ViewFault>
     ensures reads { Reads (no_call_failed result) (state S.Store conn.old) (state S.Store conn.new) }
     ensures shown { HasCleanDisk (state S.Store conn.new) → IfOk result (λ refusal. (s : ClubState) → IsClub s →
-        HasRows (tables s) (state S.Store conn.old) →
+        version ≡ version_of s → StoresClub s (state S.Store conn.old) →
         HasWrittenAnswer s moment question.now refusal (W.contents writer.old) (W.contents writer.new)) }
     ensures begun { HasCleanDisk (state S.Store conn.new) → (s : ClubState) → IsClub s →
-        HasRows (tables s) (state S.Store conn.old) →
+        version ≡ version_of s → StoresClub s (state S.Store conn.old) →
         HasShownSome s moment question.now (W.contents writer.old) (W.contents writer.new) }
 {
-    let found = read_answer(alloc, conn, question, moment)?;
+    let found = read_answer(alloc, version, conn, question, moment)?;
     match found {
         Shown::Text(text) => write_text(text.as_str(), writer),
         Shown::Refused(refusal) => Ok(Some(refusal)),

@@ -9,11 +9,11 @@ ghost use Rattle.club_core.specs.Events as core;
 ghost use Rattle.club_core.specs.Events.{has_event_name};
 ghost use Rattle.club_core.specs.Members.{find_id};
 ghost use Rattle.club_core.specs.State.{place};
-ghost use Rattle.club_rows.specs.Club.{ClubState, IsClub, tables};
-ghost use Rattle.club_rows.specs.Tables.{event_row};
+ghost use Rattle.club_rows.specs.Club.{ClubState, IsClub, StoresClub, tables};
+ghost use Rattle.club_rows.specs.Tables.{event_row, version_of};
 ghost use Rattle.cross_tables.specs.Lines.{header_text};
 ghost use Rattle.store_tables.specs.Cells.{event_cells};
-ghost use Rattle.store_tables.specs.Over.{HasRows};
+ghost use Rattle.store_tables.specs.internal.Over.{HasRows};
 ghost use Rattle.store_tables.specs.Reading.{Reads};
 ghost use Rattle.club_answers.specs.CrossTable.{name_in, standing_line, lines_from, AreScoresIn, AreTableRows};
 ghost use Rattle.club_answers.specs.CrossTable.{IsCrossTable};
@@ -26,7 +26,7 @@ use cross_tables::{OpponentScore, Standing, Standings, cells_of, header, line};
 use sqlite::{Alter, Connection};
 use std::alloc::Global;
 use store_sql::{EventName, find, find_by_first};
-use store_tables::{EventRow, ScoreRow};
+use store_tables::{EventRow, ScoreRow, Version};
 
 // The id of the event in this row.
 fn event_in(row: &EventRow) -> Result<u32, LookupFault>
@@ -141,22 +141,24 @@ fn lines_of(
 // The lines of the cross table of the event with this id and name.
 fn event_table<S: Alter>(
     alloc: Global,
+    version: Version,
     conn: &mut Connection<S>,
     event: u32,
     name: &str,
 ) -> Result<Vec<String>, LookupFault>
     ensures reads { Reads (is_ok result) (state S.Store conn.old) (state S.Store conn.new) }
-    ensures table { HasCleanDisk (state S.Store conn.new) → IfOk result (λ lines. (s : ClubState) →
-        HasRows (tables s) (state S.Store conn.old) →
+    ensures table { HasCleanDisk (state S.Store conn.new) → IfOk result (λ lines. (s : ClubState) → IsClub s →
+        version ≡ version_of s → StoresClub s (state S.Store conn.old) →
         IsCrossTable s event name.now (map (λ t. string_bytes t) lines.items)) }
 {
     let scores = scores_in(alloc, conn, event)?;
-    let members = all_members(alloc, conn)?;
+    let members = all_members(alloc, version, conn)?;
     let standings = Standings::of_rows(alloc, &scores)?;
     lines_of(alloc, name, &members, &scores, &standings)
 }
 
-/// The lines of the cross table of the event with this name; `None` if there is no such event.
+/// The lines of the cross table of the event with this name, in a club of this version; `None` if there is no such
+/// event.
 ///
 /// # Errors
 ///
@@ -164,17 +166,18 @@ fn event_table<S: Alter>(
 /// - `LookupFault::Memory`: out of memory.
 pub fn cross_table_lines<S: Alter>(
     alloc: Global,
+    version: Version,
     conn: &mut Connection<S>,
     name: &str,
 ) -> Result<Option<Vec<String>>, LookupFault>
     ensures reads { Reads (is_ok result) (state S.Store conn.old) (state S.Store conn.new) }
     ensures rows { HasCleanDisk (state S.Store conn.new) → IfOk result (λ found. (s : ClubState) → IsClub s →
-        HasRows (tables s) (state S.Store conn.old) →
+        version ≡ version_of s → StoresClub s (state S.Store conn.old) →
         AreTableRows s name.now (option_map (λ lines. map (λ t. string_bytes t) lines.items) found)) }
 {
     match event_named(alloc, conn, name)? {
         Some(event) => {
-            let lines = event_table(alloc, conn, event, name)?;
+            let lines = event_table(alloc, version, conn, event, name)?;
             Ok(Some(lines))
         }
         None => Ok(None),

@@ -15,7 +15,7 @@ ghost use Rattle.club_rows.specs.internal.RowView.{row_at};
 ghost use Rattle.sqlite.specs.State.{HasCleanDisk};
 ghost use Rattle.sqlite.specs.Held.{state};
 ghost use Rattle.store_tables.specs.Cells.{move_cells};
-ghost use Rattle.store_tables.specs.Over.{HasRows};
+ghost use Rattle.store_tables.specs.internal.Over.{HasRows};
 ghost use Rattle.store_tables.specs.Contents.{Content};
 ghost use Rattle.store_tables.specs.Reading.{Reads};
 ghost use Rattle.club_core.specs.State.{place};

@@ -3,9 +3,10 @@
 ghost use Rattle.std.specs.Prelude.{◌≡◌, IfOk, is_ok, map, string_bytes};
 ghost use Rattle.sqlite.specs.State.{HasCleanDisk};
 ghost use Rattle.sqlite.specs.Held.{state};
-ghost use Rattle.store_tables.specs.Over.{HasRows};
+ghost use Rattle.store_tables.specs.internal.Over.{HasRows};
 ghost use Rattle.store_tables.specs.Reading.{Reads};
-ghost use Rattle.club_rows.specs.Club.{ClubState, IsClub, tables};
+ghost use Rattle.club_rows.specs.Club.{ClubState, IsClub, StoresClub, tables};
+ghost use Rattle.club_rows.specs.Tables.{version_of};
 ghost use Rattle.club_requests.specs.declared.questions.Question.TheVariants as question;
 ghost use Rattle.club_answers.specs.internal.Found.{IsFound, IsFoundAs};
 ghost use Rattle.club_answers.specs.AnswerTexts.{join_lines, IsLegalText, IsNoGame, IsTableText, IsNoEvent};
@@ -27,6 +28,7 @@ use club_requests::{Question, Refusal};
 use club_rules::GameKind;
 use sqlite::{Alter, Connection};
 use std::alloc::{AllocError, Global};
+use store_tables::Version;
 
 /// The answer to a query: a text, a refusal, or records that are written one row at a time.
 #[derive(Drop)]
@@ -71,74 +73,86 @@ fn legal_moves<S: Alter>(
 
 fn cross_table<S: Alter>(
     alloc: Global,
+    version: Version,
     conn: &mut Connection<S>,
     name: &str,
 ) -> Result<Shown, LookupFault>
     ensures reads { Reads (is_ok result) (state S.Store conn.old) (state S.Store conn.new) }
     ensures found { HasCleanDisk (state S.Store conn.new) → IfOk result (λ found. (s : ClubState) → IsClub s →
-        HasRows (tables s) (state S.Store conn.old) →
+        version ≡ version_of s → StoresClub s (state S.Store conn.old) →
         IsFoundAs (IsTableText s name.now) (IsNoEvent s name.now) found) }
 {
-    match cross_table_lines(alloc, conn, name)? {
+    match cross_table_lines(alloc, version, conn, name)? {
         Some(lines) => Ok(Shown::Text(join_lines(alloc, &lines)?)),
         None => Ok(Shown::Refused(Refusal::UnknownEvent)),
     }
 }
 
-fn members<S: Alter>(alloc: Global, conn: &mut Connection<S>) -> Result<Shown, LookupFault>
+fn members<S: Alter>(
+    alloc: Global,
+    version: Version,
+    conn: &mut Connection<S>,
+) -> Result<Shown, LookupFault>
     ensures reads { Reads (is_ok result) (state S.Store conn.old) (state S.Store conn.new) }
     ensures found { HasCleanDisk (state S.Store conn.new) → IfOk result (λ found. (s : ClubState) → IsClub s →
-        HasRows (tables s) (state S.Store conn.old) → IsFoundAs (IsMembersText s) (λ refusal. ⊥) found) }
+        version ≡ version_of s → StoresClub s (state S.Store conn.old) →
+        IsFoundAs (IsMembersText s) (λ refusal. ⊥) found) }
 {
-    let members = all_members(alloc, conn)?;
+    let members = all_members(alloc, version, conn)?;
     let text = members_text(alloc, &members)?;
     Ok(Shown::Text(text))
 }
 
-fn member_names<S: Alter>(alloc: Global, conn: &mut Connection<S>) -> Result<Shown, LookupFault>
+fn member_names<S: Alter>(
+    alloc: Global,
+    version: Version,
+    conn: &mut Connection<S>,
+) -> Result<Shown, LookupFault>
     ensures reads { Reads (is_ok result) (state S.Store conn.old) (state S.Store conn.new) }
     ensures found { HasCleanDisk (state S.Store conn.new) → IfOk result (λ found. (s : ClubState) → IsClub s →
-        HasRows (tables s) (state S.Store conn.old) → IsFoundAs (IsMembersJson s) (λ refusal. ⊥) found) }
+        version ≡ version_of s → StoresClub s (state S.Store conn.old) →
+        IsFoundAs (IsMembersJson s) (λ refusal. ⊥) found) }
 {
-    let members = all_members(alloc, conn)?;
+    let members = all_members(alloc, version, conn)?;
     let text = members_json(alloc, &members)?;
     Ok(Shown::Text(text))
 }
 
-/// Finds the answer to a query at this timestamp.
+/// Finds the answer to a query to a club of this version at this timestamp.
 pub(crate) fn read_answer<S: Alter>(
     alloc: Global,
+    version: Version,
     conn: &mut Connection<S>,
     question: &Question,
     moment: Moment,
 ) -> Result<Shown, LookupFault>
     ensures reads { Reads (is_ok result) (state S.Store conn.old) (state S.Store conn.new) }
     ensures found { HasCleanDisk (state S.Store conn.new) → IfOk result (λ found. (s : ClubState) → IsClub s →
-        HasRows (tables s) (state S.Store conn.old) → IsFound s moment question.now found) }
+        version ≡ version_of s → StoresClub s (state S.Store conn.old) → IsFound s moment question.now found) }
 {
     match question {
         Question::LegalMoves(game) => legal_moves(alloc, conn, *game),
-        Question::CrossTable(name) => cross_table(alloc, conn, name.as_str()),
+        Question::CrossTable(name) => cross_table(alloc, version, conn, name.as_str()),
         Question::Record(game) => Ok(Shown::Record(*game)),
-        Question::Members => members(alloc, conn),
-        Question::Events => of_lists(alloc, conn, question, moment),
-        Question::Games(_) => of_lists(alloc, conn, question, moment),
-        Question::Challenges => challenge_lines(alloc, conn),
-        Question::MembersJson => member_names(alloc, conn),
-        Question::EventsJson => of_lists(alloc, conn, question, moment),
-        Question::GamesJson(_) => of_lists(alloc, conn, question, moment),
-        Question::ChallengesJson => challenge_objects(alloc, conn),
-        Question::MyGames(key) => mine(alloc, conn, key.as_str(), moment),
-        Question::EndedGames(_) => of_lists(alloc, conn, question, moment),
-        Question::ChallengeChoices(_) => of_lists(alloc, conn, question, moment),
-        Question::EventGames(_) => of_lists(alloc, conn, question, moment),
-        Question::EventStandings(name) => standings(alloc, conn, name.as_str(), moment),
-        Question::GameClock(game) => clock(alloc, conn, *game, moment),
+        Question::Members => members(alloc, version, conn),
+        Question::Events => of_lists(alloc, version, conn, question, moment),
+        Question::Games(_) => of_lists(alloc, version, conn, question, moment),
+        Question::Challenges => challenge_lines(alloc, version, conn),
+        Question::MembersJson => member_names(alloc, version, conn),
+        Question::EventsJson => of_lists(alloc, version, conn, question, moment),
+        Question::GamesJson(_) => of_lists(alloc, version, conn, question, moment),
+        Question::ChallengesJson => challenge_objects(alloc, version, conn),
+        Question::MyGames(key) => mine(alloc, version, conn, key.as_str(), moment),
+        Question::EndedGames(_) => of_lists(alloc, version, conn, question, moment),
+        Question::ChallengeChoices(_) => of_lists(alloc, version, conn, question, moment),
+        Question::EventGames(_) => of_lists(alloc, version, conn, question, moment),
+        Question::EventStandings(name) => standings(alloc, version, conn, name.as_str(), moment),
+        Question::GameClock(game) => clock(alloc, version, conn, *game, moment),
         Question::GameJson(game) => game_body(alloc, conn, *game),
-        Question::GamePage(game) => page(alloc, conn, *game, moment),
+        Question::GamePage(game) => page(alloc, version, conn, *game, moment),
         Question::LegalMovesJson(game) => moves_body(alloc, conn, *game),
         Question::Board { game, letters } => board(alloc, conn, *game, *letters, moment),
-        Question::EventRecords(_) => of_lists(alloc, conn, question, moment),
+        Question::EventRecords(_) => of_lists(alloc, version, conn, question, moment),
         Question::Analysis(asked) => analysis(alloc, conn, asked),
     }
 }

@@ -3,7 +3,7 @@
 ghost use Rattle.std.specs.Prelude.{◌≡◌, ◌⊎◌, ℕ, map, IfOk, OnOk, is_ok, Some, string_bytes};
 ghost use Rattle.club_core.specs.State.{place};
 ghost use Rattle.club_rows.specs.Club.{ClubGame, ClubState, IsClub, tables};
-ghost use Rattle.store_tables.specs.Over.{HasRows};
+ghost use Rattle.store_tables.specs.internal.Over.{HasRows};
 ghost use Rattle.store_tables.specs.Reading.{Reads};
 ghost use Rattle.sqlite.specs.State.{HasCleanDisk};
 ghost use Rattle.sqlite.specs.Held.{state};

@@ -1,11 +1,11 @@
 //! Queries that list events or games, all from one reading of the club.
 
-ghost use Rattle.std.specs.Prelude.{ℕ, IfOk, is_ok};
+ghost use Rattle.std.specs.Prelude.{◌≡◌, ℕ, IfOk, is_ok};
 ghost use Rattle.sqlite.specs.State.{HasCleanDisk};
 ghost use Rattle.sqlite.specs.Held.{state};
-ghost use Rattle.store_tables.specs.Over.{HasRows};
 ghost use Rattle.store_tables.specs.Reading.{Reads};
-ghost use Rattle.club_rows.specs.Club.{ClubState, IsClub, tables};
+ghost use Rattle.club_rows.specs.Club.{ClubState, IsClub, StoresClub};
+ghost use Rattle.club_rows.specs.Tables.{version_of};
 ghost use Rattle.club_requests.specs.declared.questions.Question.TheVariants as question;
 ghost use Rattle.club_answers.specs.internal.Found.{IsFound, IsFoundAs, IsReadOf};
 ghost use Rattle.club_answers.specs.AnswerTexts.{IsEventGamesText, IsEventsText, IsGamesText, IsChallengeChoicesText};
@@ -24,6 +24,7 @@ use club_reads::LookupFault;
 use club_requests::{Listing, Question, Refusal};
 use sqlite::{Alter, Connection};
 use std::alloc::Global;
+use store_tables::Version;
 
 fn events(alloc: Global, club: &ClubRead) -> Result<Shown, LookupFault>
     ensures { IfOk result (λ found. (s : ClubState) (moment : ℕ) → IsReadOf s moment club.now →
@@ -163,15 +164,16 @@ fn shown_of(alloc: Global, club: &ClubRead, question: &Question) -> Result<Shown
 /// Finds the answer to a query that lists events or games; any other query is an error.
 pub(crate) fn of_lists<S: Alter>(
     alloc: Global,
+    version: Version,
     conn: &mut Connection<S>,
     question: &Question,
     moment: Moment,
 ) -> Result<Shown, LookupFault>
     ensures reads { Reads (is_ok result) (state S.Store conn.old) (state S.Store conn.new) }
     ensures found { HasCleanDisk (state S.Store conn.new) → IfOk result (λ found. (s : ClubState) → IsClub s →
-        HasRows (tables s) (state S.Store conn.old) → IsFound s moment question.now found) }
+        version ≡ version_of s → StoresClub s (state S.Store conn.old) → IsFound s moment question.now found) }
 {
-    let club = read_club(alloc, conn, moment)?;
+    let club = read_club(alloc, version, conn, moment)?;
     let found = shown_of(alloc, &club, question)?;
     Ok(found)
 }

@@ -4,10 +4,11 @@ ghost use Rattle.std.specs.Prelude.{◌≡◌, ℕ, IfOk, is_ok, Some, string_by
 ghost use Rattle.serde_json.specs.Written.{compact_text};
 ghost use Rattle.sqlite.specs.State.{HasCleanDisk};
 ghost use Rattle.sqlite.specs.Held.{state};
-ghost use Rattle.store_tables.specs.Over.{HasRows};
+ghost use Rattle.store_tables.specs.internal.Over.{HasRows};
 ghost use Rattle.store_tables.specs.Reading.{Reads};
 ghost use Rattle.club_core.specs.State.{place};
-ghost use Rattle.club_rows.specs.Club.{ClubGame, ClubState, IsClub, tables};
+ghost use Rattle.club_rows.specs.Club.{ClubGame, ClubState, IsClub, StoresClub, tables};
+ghost use Rattle.club_rows.specs.Tables.{version_of};
 ghost use Rattle.club_changes.specs.internal.Stored.{IsStoredGame};
 ghost use Rattle.club_answers.specs.AnswerTexts.{IsClockText, IsNoGame};
 ghost use Rattle.club_answers.specs.internal.Found.{IsFoundAs};
@@ -26,10 +27,12 @@ use club_reads::{LookupFault, all_members, last_moment, stored_game};
 use club_requests::Refusal;
 use sqlite::{Alter, Connection};
 use std::alloc::Global;
+use store_tables::Version;
 
 // The clock of a stored game.
 fn clock_in<S: Alter>(
     alloc: Global,
+    version: Version,
     conn: &mut Connection<S>,
     stored: &StoredGame,
     moment: Moment,
@@ -37,10 +40,11 @@ fn clock_in<S: Alter>(
     ensures reads { Reads (is_ok result) (state S.Store conn.old) (state S.Store conn.new) }
     ensures clock { HasCleanDisk (state S.Store conn.new) → IfOk result (λ text. (s : ClubState) (id : ℕ)
         (game : ClubGame) → IsClub s → place s.games id ≡ Some game → IsStoredGame s id game stored.now →
-        HasRows (tables s) (state S.Store conn.old) → string_bytes text ≡ compact_text (clock_of s moment id game)) }
+        version ≡ version_of s → StoresClub s (state S.Store conn.old) →
+        string_bytes text ≡ compact_text (clock_of s moment id game)) }
 {
     let last = last_moment(alloc, conn)?;
-    let members = all_members(alloc, conn)?;
+    let members = all_members(alloc, version, conn)?;
     let told = entry_of(alloc, &stored.row)?;
     let text = clock_text(alloc, &members, &told, moment.later(last))?;
     Ok(text)
@@ -49,19 +53,20 @@ fn clock_in<S: Alter>(
 /// The clock of a game.
 pub(crate) fn clock<S: Alter>(
     alloc: Global,
+    version: Version,
     conn: &mut Connection<S>,
     game: u64,
     moment: Moment,
 ) -> Result<Shown, LookupFault>
     ensures reads { Reads (is_ok result) (state S.Store conn.old) (state S.Store conn.new) }
     ensures found { HasCleanDisk (state S.Store conn.new) → IfOk result (λ found. (s : ClubState) → IsClub s →
-        HasRows (tables s) (state S.Store conn.old) →
+        version ≡ version_of s → StoresClub s (state S.Store conn.old) →
         IsFoundAs (IsClockText s moment game) (IsNoGame s game) found) }
 {
     let found = stored_game(alloc, conn, game)?;
     match found {
         Some(stored) => {
-            let text = clock_in(alloc, conn, &stored, moment)?;
+            let text = clock_in(alloc, version, conn, &stored, moment)?;
             Ok(Shown::Text(text))
         }
         None => Ok(Shown::Refused(Refusal::UnknownGame)),
@@ -94,6 +99,7 @@ fn game_page<S: Alter>(
 // The page of a stored game.
 fn page_in<S: Alter>(
     alloc: Global,
+    version: Version,
     conn: &mut Connection<S>,
     stored: &StoredGame,
     moment: Moment,
@@ -101,10 +107,11 @@ fn page_in<S: Alter>(
     ensures reads { Reads (is_ok result) (state S.Store conn.old) (state S.Store conn.new) }
     ensures page { HasCleanDisk (state S.Store conn.new) → IfOk result (λ text. (s : ClubState) (id : ℕ)
         (game : ClubGame) → IsClub s → place s.games id ≡ Some game → IsStoredGame s id game stored.now →
-        HasRows (tables s) (state S.Store conn.old) → IsPageOf s moment id game (string_bytes text)) }
+        version ≡ version_of s → StoresClub s (state S.Store conn.old) →
+        IsPageOf s moment id game (string_bytes text)) }
 {
     let last = last_moment(alloc, conn)?;
-    let members = all_members(alloc, conn)?;
+    let members = all_members(alloc, version, conn)?;
     let page = game_page(alloc, conn, stored)?;
     let text = page_text(alloc, &members, page, moment.later(last))?;
     Ok(text)
@@ -113,18 +120,19 @@ fn page_in<S: Alter>(
 /// A game, its clock and its legal moves.
 pub(crate) fn page<S: Alter>(
     alloc: Global,
+    version: Version,
     conn: &mut Connection<S>,
     game: u64,
     moment: Moment,
 ) -> Result<Shown, LookupFault>
     ensures reads { Reads (is_ok result) (state S.Store conn.old) (state S.Store conn.new) }
     ensures found { HasCleanDisk (state S.Store conn.new) → IfOk result (λ found. (s : ClubState) → IsClub s →
-        HasRows (tables s) (state S.Store conn.old) →
+        version ≡ version_of s → StoresClub s (state S.Store conn.old) →
         IsFoundAs (IsPageText s moment game) (IsNoGame s game) found) }
 {
     match stored_game(alloc, conn, game)? {
         Some(stored) => {
-            let text = page_in(alloc, conn, &stored, moment)?;
+            let text = page_in(alloc, version, conn, &stored, moment)?;
             Ok(Shown::Text(text))
         }
         None => Ok(Shown::Refused(Refusal::UnknownGame)),

@@ -5,8 +5,8 @@ ghost use Rattle.sqlite.specs.State.{HasCleanDisk};
 ghost use Rattle.sqlite.specs.Held.{state};
 ghost use Rattle.club_core.specs.Events.{has_event_name};
 ghost use Rattle.club_core.specs.Members.{find_id};
-ghost use Rattle.club_rows.specs.Club.{ClubState, IsClub, tables};
-ghost use Rattle.store_tables.specs.Over.{HasRows};
+ghost use Rattle.club_rows.specs.Club.{ClubState, IsClub, StoresClub};
+ghost use Rattle.club_rows.specs.Tables.{version_of};
 ghost use Rattle.store_tables.specs.Reading.{Reads};
 ghost use Rattle.club_answers.specs.CrossTable.{AreScoresIn};
 ghost use Rattle.club_answers.specs.EventStandings.{AreStandings, IsStandingsText};
@@ -23,6 +23,7 @@ use club_requests::Refusal;
 use cross_tables::{FieldLine, OpponentScore, field_lines};
 use sqlite::{Alter, Connection};
 use std::alloc::Global;
+use store_tables::Version;
 
 // The lines of the standings of the event with this id.
 fn lines_in(
@@ -42,22 +43,19 @@ fn lines_in(
     Ok(lines)
 }
 
-// The standings of the event with this id and name.
-fn standings_of<S: Alter>(
+// The text of the standings of the event with this id and name.
+fn standings_text(
     alloc: Global,
-    conn: &mut Connection<S>,
+    club: &ClubRead,
     event: u32,
     name: &str,
-    moment: Moment,
+    scores: &[OpponentScore],
 ) -> Result<String, LookupFault>
-    ensures reads { Reads (is_ok result) (state S.Store conn.old) (state S.Store conn.new) }
-    ensures standings { HasCleanDisk (state S.Store conn.new) → IfOk result (λ text. (s : ClubState) → IsClub s →
-        HasRows (tables s) (state S.Store conn.old) → find_id (has_event_name name.now) s.events ≡ Some event →
+    ensures { IfOk result (λ text. (s : ClubState) (moment : ℕ) → IsReadOf s moment club.now →
+        AreScoresIn s event scores.now → find_id (has_event_name name.now) s.events ≡ Some event →
         IsStandingsText s name.now (string_bytes text)) }
 {
-    let scores = scores_in(alloc, conn, event)?;
-    let club = read_club(alloc, conn, moment)?;
-    let lines = lines_in(alloc, &club, event, &scores)?;
+    let lines = lines_in(alloc, club, event, scores)?;
     let text = standings_json(alloc, &club.members, &club.events, name, &lines)?;
     Ok(text)
 }
@@ -65,18 +63,21 @@ fn standings_of<S: Alter>(
 /// Finds the standings of the event with this name.
 pub(crate) fn standings<S: Alter>(
     alloc: Global,
+    version: Version,
     conn: &mut Connection<S>,
     name: &str,
     moment: Moment,
 ) -> Result<Shown, LookupFault>
     ensures reads { Reads (is_ok result) (state S.Store conn.old) (state S.Store conn.new) }
     ensures found { HasCleanDisk (state S.Store conn.new) → IfOk result (λ found. (s : ClubState) → IsClub s →
-        HasRows (tables s) (state S.Store conn.old) →
+        version ≡ version_of s → StoresClub s (state S.Store conn.old) →
         IsFoundAs (IsStandingsText s name.now) (IsNoEvent s name.now) found) }
 {
     match event_named(alloc, conn, name)? {
         Some(event) => {
-            let text = standings_of(alloc, conn, event, name, moment)?;
+            let scores = scores_in(alloc, conn, event)?;
+            let club = read_club(alloc, version, conn, moment)?;
+            let text = standings_text(alloc, &club, event, name, &scores)?;
             Ok(Shown::Text(text))
         }
         None => Ok(Shown::Refused(Refusal::UnknownEvent)),

@@ -3,7 +3,7 @@ use Rattle.std.proofs.Common.{◌≡◌, ◌<◌, ℕ, suc, Option, Some, None, 
 use Rattle.std.proofs.lemmas.Bool.{cases_eq}
 use Rattle.store_tables.specs.declared.names.Table.{Table}
 use Rattle.store_tables.specs.declared.names.Table.TheVariants.{Members, Events, EventRules, Challenges, Moves, Games}
-use Rattle.store_tables.specs.declared.names.Table.TheVariants.{Seen, Scores, Meta}
+use Rattle.store_tables.specs.declared.names.Table.TheVariants.{Seen, Scores, Meta, Keys, Rulings, Closings}
 use Rattle.club_audit.specs.FirstWrong.{order}
 use Rattle.club_audit.specs.internal.FirstWrong.{IsFirstWrong, Precedes}
 
@@ -18,10 +18,13 @@ same-order Games Games is = refl
 same-order Seen Seen is = refl
 same-order Scores Scores is = refl
 same-order Meta Meta is = refl
+same-order Keys Keys is = refl
+same-order Rulings Rulings is = refl
+same-order Closings Closings is = refl
 same-order _ _ is = absurd (omega arith)
 
--- there are nine
-in-order : (t : Table) → order t < 9
+-- there are twelve
+in-order : (t : Table) → order t < 12
 in-order Members = omega arith
 in-order _ = omega arith
 
@@ -40,11 +43,18 @@ module _ (R : Table → Type 0) where
     | inr other ↦ before u (omega (arith, low, other))
   ]
 
-  pub up-to-moves : R Members → R Events → R EventRules → R Challenges → UpTo 4
-  up-to-moves a b c d =
-      with-next Challenges (with-next EventRules (with-next Events (with-next Members up-to-none a) b) c) d
+  pub up-to-closings : R Members → R Keys → R Events → R EventRules → UpTo 4
+  up-to-closings a b c d =
+      with-next EventRules (with-next Events (with-next Keys (with-next Members up-to-none a) b) c) d
 
-  pub all-tables : UpTo 9 → (t : Table) → R t
+  pub up-to-moves : R Members → R Keys → R Events → R EventRules → R Closings → R Challenges → UpTo 6
+  up-to-moves a b c d e f = with-next Challenges (with-next Closings (up-to-closings a b c d) e) f
+
+  pub up-to-meta : UpTo 6 → R Moves → R Rulings → R Games → R Seen → R Scores → UpTo 11
+  up-to-meta early a b c d e =
+      with-next Scores (with-next Seen (with-next Games (with-next Rulings (with-next Moves early a) b) c) d) e
+
+  pub all-tables : UpTo 12 → (t : Table) → R t
   all-tables right t = right t (in-order t)
 
 -- where no table is named, all are right

@@ -13,7 +13,8 @@ use Rattle.store_tables.specs.declared.rows.GameTableRow.{GameTableRow}
 use Rattle.store_tables.specs.declared.rows.MoveRow.{MoveRow}
 use Rattle.store_tables.specs.declared.rows.SeenRow.{SeenRow}
 use Rattle.store_tables.specs.declared.names.Table.{Table}
-use Rattle.store_tables.specs.declared.names.Table.TheVariants.{Games, Meta, Moves, Scores, Seen, Members, Events}
+use Rattle.store_tables.specs.declared.names.Table.TheVariants.{Games, Meta, Moves, Scores, Seen, Members, Events, Keys}
+use Rattle.store_tables.specs.declared.names.Table.TheVariants.{Rulings}
 use Rattle.club_rows.specs.declared.view.CheckedRows.{CheckedRows}
 use Rattle.club_rows.specs.declared.view.CheckedGame.{CheckedGame}
 use Rattle.club_rows.specs.EachOnce.{AreEachOnce}
@@ -112,9 +113,9 @@ module _ {R P M E T : Type 0} {rules : GameRules P M E T} {terms : Terms} {row :
     within-by n id game are = view-within rules terms game view (shown.complete id game are) shown.terms_are n
 
     -- the tables before the wrong one are right
-    up-to-games : UpTo Right 5
-    up-to-games = with-next Right Moves (up-to-moves Right tt tt tt tt)
-        (moves-of rules terms row moves shown.id shown.game shown.are)
+    up-to-games : UpTo Right 8
+    up-to-games = with-next Right Rulings (with-next Right Moves (up-to-moves Right tt tt tt tt tt tt)
+        (moves-of rules terms row moves shown.id shown.game shown.are)) tt
 
     pub late-game : ¬ IsWithin rules view 253402300799 → IsFirstWrong Right (Some Games)
     late-game late = record {
@@ -123,7 +124,7 @@ module _ {R P M E T : Type 0} {rules : GameRules P M E T} {terms : Terms} {row :
     }
 
     module _ (within : IsWithin rules view 253402300799) where
-      up-to-seen : UpTo Right 6
+      up-to-seen : UpTo Right 9
       up-to-seen = with-next Right Games up-to-games (record {
         id = shown.id;
         game = shown.game;
@@ -152,7 +153,7 @@ module _ {R P M E T : Type 0} {rules : GameRules P M E T} {terms : Terms} {row :
           seen_are = stand;
         }
 
-        up-to-meta : UpTo Right 8
+        up-to-meta : UpTo Right 11
         up-to-meta = with-next Right Scores (with-next Right Seen up-to-seen (all-until 253402300799 within)) tt
 
         pub late-end : ¬ IsWithinGiven rules view last → IsFirstWrong Right (Some Meta)
@@ -193,19 +194,23 @@ ends-later rules terms n m game low ends = record {
 
 -- the tables before that of moves are right, of whatever game
 pub early-of : (last : Option ℕ) (row : GameTableRow) (moves : List MoveRow) (seen : List SeenRow) (kind : GameKind)
-    (terms : Terms) → UpTo (IsRightOf kind terms last row moves seen) 4
-early-of last row moves seen Draughts terms = up-to-moves (IsRightOf Draughts terms last row moves seen) tt tt tt tt
-early-of last row moves seen Shogi terms = up-to-moves (IsRightOf Shogi terms last row moves seen) tt tt tt tt
+    (terms : Terms) → UpTo (IsRightOf kind terms last row moves seen) 6
+early-of last row moves seen Draughts terms =
+    up-to-moves (IsRightOf Draughts terms last row moves seen) tt tt tt tt tt tt
+early-of last row moves seen Shogi terms = up-to-moves (IsRightOf Shogi terms last row moves seen) tt tt tt tt tt tt
 
 module _ (event : EventRow) (declares : Bool) (last : Option ℕ) (row : GameTableRow) (moves : List MoveRow)
     (seen : List SeenRow) where
   abbrev InEvent : Table → Type 0
   InEvent = IsRightInEvent event declares last row moves seen
 
+  early : (t : Table) → order t < 6 → IsRightBy event declares last row moves seen t
+  early t low = λ kind b i is gives. early-of last row moves seen kind (terms_told b i declares) t low
+
   no-events : ¬ GivesRules event → IsFirstWrong InEvent (Some Events)
   no-events none = record {
-    before = with-next InEvent Members (up-to-none InEvent) (λ kind b i is gives. early-of last row moves seen kind
-        (terms_told b i declares) Members (omega arith));
+    before = with-next InEvent Keys (with-next InEvent Members (up-to-none InEvent) (early Members (omega arith)))
+        (early Keys (omega arith));
     named = none;
   }
 
@@ -311,7 +316,8 @@ module _ (s : ClubState) (rows : Rows) (people : HasPeople s rows) (index : ℕ)
   -- a game that names no event is wrong, and its moves are passed over
   pub no-event : ((id : ℕ) (e : EventRow) → ¬ NamesEvent rows row id e) → IsFirstWrong At (Some Games)
   no-event none = record {
-    before = with-next At Moves (up-to-moves At tt tt tt tt) (λ id e declares named ruled. absurd (none id e named));
+    before = with-next At Rulings (with-next At Moves (up-to-moves At tt tt tt tt tt tt)
+        (λ id e declares named ruled. absurd (none id e named))) tt;
     named = λ it.
         let (low, g, is) = it in
         let (id, e, named) = any-names (until 253402300799 s) rows (people-until 253402300799) index row moves g is in
@@ -349,7 +355,7 @@ module _ (s : ClubState) (rows : Rows) (people : HasPeople s rows) (index : ℕ)
         subst₂ (λ x y. IsRightBy x y last row moves seen Moves) event (declares-alike declares d (cc)) right
 
     -- the tables before that of moves are right
-    early-in : UpTo In 4
+    early-in : UpTo In 6
     early-in Events low = rules-of
     early-in t low = λ kind b i kind_is gives.
         early-of last row moves seen kind (terms_told b i declares) t low
@@ -416,14 +422,14 @@ module _ (s : ClubState) (rows : Rows) (people : HasPeople s rows) (index : ℕ)
     -- where its moves are wrong, that is named whatever its place
     pub moves-first : IsFirstWrong In (Some Moves) → IsFirstWrong At (Some Moves)
     moves-first first = record {
-      before = up-to-moves At tt tt tt tt;
+      before = up-to-moves At tt tt tt tt tt tt;
       named = λ right. first.named (right id e declares named ruled);
     }
 
     moves-come : (wrong : Option Table) → IsFirstWrong In wrong → wrong ≢ Some Moves → Precedes Moves wrong
     moves-come None first other = tt
     moves-come (Some Moves) first other = absurd (other refl)
-    moves-come (Some t) first other = elim (cases_lt (order t) 4) [
+    moves-come (Some t) first other = elim (cases_lt (order t) 6) [
       | inl low ↦ absurd (first.named (early-in t low))
       | inr high ↦ omega arith
     ]
@@ -438,8 +444,8 @@ module _ (s : ClubState) (rows : Rows) (people : HasPeople s rows) (index : ℕ)
     placed-first wrong result stands first sound complete kept has_moves has_games = elim (cases_Bool stands) [
       | inl is ↦ subst (IsFirstWrong At) (sym (kept is)) (stands-first (sound is) wrong first)
       | inr other ↦ subst (IsFirstWrong At) (sym (has_games other (λ is. cc))) (record {
-        before = with-next At Moves (up-to-moves At tt tt tt tt)
-            (moves-at (first.before Moves (moves-come wrong first (λ is. cc))));
+        before = with-next At Rulings (with-next At Moves (up-to-moves At tt tt tt tt tt tt)
+            (moves-at (first.before Moves (moves-come wrong first (λ is. cc))))) tt;
         named = λ it.
             let (low, g, is) = it in
             let stand = any-stands (until 253402300799 s) rows (people-until 253402300799) index row moves g is low in

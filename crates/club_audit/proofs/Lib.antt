@@ -1,9 +1,11 @@
 pub mod AuditLemmas
 pub mod ChallengeLemmas
+pub mod ClosingLemmas
 pub mod FirstLemmas
 pub mod GameLemmas
 pub mod GamePlaces
 pub mod KeyLemmas
+pub mod LaterKeys
 pub mod PeopleLemmas
 pub mod PlacedLemmas
 pub mod Proved

@@ -1,7 +1,7 @@
 -- The members and the events that rows show.
 use Rattle.std.proofs.Common.{◌≡◌, ◌≢◌, ℕ, suc, pos, ◌+◌, ◌≤◌, List, [], ◌∷◌, length, map, Bool, Some, ap, sym, false}
 use Rattle.std.proofs.Common.{refl, subst, ◌∙◌, arith, inl, inr}
-use Rattle.std.specs.Prelude.{ℤ, slice_get, string_bytes}
+use Rattle.std.specs.Prelude.{ℤ, None, slice_get, string_bytes}
 use Rattle.std.proofs.lemmas.Bool.{cases_eq}
 use Rattle.sqlite.specs.Order.{Row}
 use Rattle.sqlite_value.specs.declared.value.Value.TheVariants.{Int, Text}
@@ -69,7 +69,7 @@ member-key : (n : ℕ) (m : Member) (r : MemberRow) → member_cells r ≡ membe
 member-key n m r is = (cc, cc)
 
 pub member-cells : (id : ℕ) (r : MemberRow) → r.id ≡ pos id
-    → member_cells r ≡ member_row id (record { name = string_bytes r.name; key = string_bytes r.key })
+    → member_cells r ≡ member_row id (record { name = string_bytes r.name; key = string_bytes r.key; later = [] })
 member-cells id r is = ap (λ n. Int n ∷ Text (string_bytes r.name) ∷ Text (string_bytes r.key) ∷ []) is
 
 pub members-from : (rows : List MemberRow) → length rows ≤ 200
@@ -124,7 +124,7 @@ event-name n e r is = (cc, cc)
 
 abbrev pub event_told : EventRow → GameKind → ℕ → ℕ → Event
 event_told r kind budget increment =
-    record { name = string_bytes r.name; game = kind; terms = terms_told budget increment false }
+    record { name = string_bytes r.name; game = kind; terms = terms_told budget increment false; closed = None }
 
 pub event-cells : (id budget increment : ℕ) (kind : GameKind) (r : EventRow) → r.id ≡ pos id
     → r.game ≡ pos (kind_number kind) → r.budget ≡ pos budget → r.increment ≡ pos increment

@@ -5,3 +5,5 @@ pub use Rattle.club_audit.proofs.FirstLemmas.{all-right, none-named}
 pub use Rattle.club_audit.proofs.GamePlaces.{club-right, later-game, right-club}
 pub use Rattle.club_audit.proofs.PeopleLemmas.{events-count, members-count, ruled-of, rules-counted}
 pub use Rattle.club_audit.proofs.PlacedLemmas.{numbered-append, numbered-at, numbered-back, numbered-length}
+pub use Rattle.club_audit.proofs.ClosingLemmas.{ClosedBy, closed-by, closed-of, closings-in-order, rows-closed-by}
+pub use Rattle.club_audit.proofs.LaterKeys.{keyed-of}

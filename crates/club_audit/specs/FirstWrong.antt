@@ -2,16 +2,19 @@
 use Rattle.std.specs.Prelude.{ℕ}
 use Rattle.store_tables.specs.declared.names.Table.{Table}
 use Rattle.store_tables.specs.declared.names.Table.TheVariants.{Members, Events, EventRules, Challenges, Moves, Games}
-use Rattle.store_tables.specs.declared.names.Table.TheVariants.{Seen, Scores, Meta}
+use Rattle.store_tables.specs.declared.names.Table.TheVariants.{Seen, Scores, Meta, Keys, Rulings, Closings}
 
 -- the place of a table in the order of the checks
 abbrev pub order : Table → ℕ
 order Members = 0
-order Events = 1
-order EventRules = 2
-order Challenges = 3
-order Moves = 4
-order Games = 5
-order Seen = 6
-order Scores = 7
-order Meta = 8
+order Keys = 1
+order Events = 2
+order EventRules = 3
+order Closings = 4
+order Challenges = 5
+order Moves = 6
+order Rulings = 7
+order Games = 8
+order Seen = 9
+order Scores = 10
+order Meta = 11

@@ -1,7 +1,9 @@
 pub mod Audit
 pub mod ChallengeAudit
 pub mod ChallengeKeys
+pub mod ClosingAudit
 pub mod FirstWrong
 pub mod GameAudit
+pub mod KeyAudit
 pub mod SeenAudit
 pub mod Standings

@@ -12,7 +12,9 @@ ghost use Rattle.club_audit.specs.internal.GameAudit.{IsRightAt, StandsAt};
 ghost use Rattle.club_rows.specs.Club.{ClubState};
 
 use crate::challenges::are_challenges;
+use crate::closings::{are_closed_by, are_closings};
 use crate::game_audit::{GameRows, wrong_in_event};
+use crate::keys::are_keys;
 use crate::people::{are_events, are_members, are_rules, is_place};
 use clocks::Moment;
 use club_requests::values::MOST_GAMES;
@@ -150,11 +152,18 @@ pub fn wrong_register(alloc: Global, rows: &Rows) -> Result<Option<Table>, Memor
     if !are_members(&rows.members) {
         return Ok(Some(Table::Members));
     }
+    let keyed = are_keys(alloc, &rows.keys, &rows.members)?;
+    if !keyed {
+        return Ok(Some(Table::Keys));
+    }
     if !are_events(&rows.events) {
         return Ok(Some(Table::Events));
     }
     if !are_rules(&rows.event_rules, rows.events.as_slice().len()) {
         return Ok(Some(Table::EventRules));
+    }
+    if !are_closings(&rows.closings, rows.events.as_slice().len()) {
+        return Ok(Some(Table::Closings));
     }
     if !are_challenges(alloc, rows)? {
         return Ok(Some(Table::Challenges));
@@ -163,7 +172,13 @@ pub fn wrong_register(alloc: Global, rows: &Rows) -> Result<Option<Table>, Memor
         return Ok(Some(Table::Games));
     }
     match to_moment(rows.meta.last) {
-        Some(_) => Ok(None),
+        Some(last) => {
+            if are_closed_by(&rows.closings, last) {
+                Ok(None)
+            } else {
+                Ok(Some(Table::Meta))
+            }
+        }
         None => Ok(Some(Table::Meta)),
     }
 }

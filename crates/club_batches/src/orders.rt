@@ -76,7 +76,7 @@ fn is_passed_over(line: &str) -> bool
     line.starts_with('#') || line.trim().is_empty()
 }
 
-// Whether a line reads its record from standard input, which a batch does not allow.
+// Whether a line reads its record or its key from standard input, which a batch does not allow.
 fn reads_input(line: &BatchOrder) -> bool
     ensures { result ≡ reads_input line.now }
 {
@@ -109,7 +109,7 @@ fn order_of(alloc: Global, number: u64, line: &str) -> Result<BatchLine, BadWord
         Err(bad) => return Err(bad_words(alloc, number, &bad)),
     };
     if reads_input(&order) {
-        return Err(bad_line(alloc, number, "the record of a line is a file\n"));
+        return Err(bad_line(alloc, number, "a line of a batch reads no standard input\n"));
     }
     Ok(BatchLine {
         number,
@@ -145,7 +145,10 @@ fn push_line(
     };
     match orders.push(order) {
         Ok(()) => Ok(()),
-        Err(_) => Err(BadWords::Memory),
+        Err(rejected) => {
+            drop(rejected);
+            Err(BadWords::Memory)
+        }
     }
 }
 

@@ -1,6 +1,6 @@
 -- The tables of a club after a command about a challenge that is accepted.
 use Rattle.std.proofs.Common.{◌≡◌, ℕ, ◌+◌, ◌==◌, List, [], ◌∷◌, length, Option, Some, None, Bool, true, false, refl, ap}
-use Rattle.std.proofs.Common.{sym, subst, ◌∙◌, arith}
+use Rattle.std.proofs.Common.{sym, subst, ◌∙◌, arith, inr}
 use Rattle.std.specs.Prelude.{if◌then◌else◌}
 use Rattle.club_requests.specs.declared.answers.Outcome as given
 use Rattle.club_requests.specs.declared.answers.Outcome.TheVariants as given_is
@@ -18,7 +18,7 @@ use Rattle.club_requests.specs.declared.requests.Caller.TheVariants.{Officer, Me
 use Rattle.club_core.specs.Answer.{reply_of}
 use Rattle.club_core.specs.internal.Answer.{challenge_outcome_of}
 use Rattle.club_core.specs.Challenges.{pairing_for, answer_step, answers, answer_refusal, repeat_of_answer}
-use Rattle.club_core.specs.Events.{Event}
+use Rattle.club_core.specs.Events.{Event, is_closed}
 use Rattle.club_requests.specs.Outcome.{Outcome, Reply, accepted, repeated, refused, map_outcome, by_member, unless}
 use Rattle.club_requests.specs.Outcome.{unless_repeat}
 use Rattle.club_core.specs.declared.seats.Pairing.{Pairing}
@@ -72,11 +72,12 @@ module _ (s : ClubState) (is_club : IsClub s) (moment : ℕ) where
       (record { outcome = given_is.Accepted a; changes = Some changes })
   challenge_decided c a changes puts =
       all_decided s (accepted (with_challenge s moment c) (reply_of a)) (with_challenge s moment c)
-      (given_is.Accepted a) changes moment _ refl refl puts
+      (given_is.Accepted a) changes moment _ refl refl puts (inr (refl, refl, refl))
       (moment_put s moment
       & same_itself _ & same_itself _
       & challenge-put s.challenges c is_club.challenge_numbers
-      & same_itself _ & same_itself _ & same_itself _ & same_itself _ & same_itself _ & tt)
+      & same_itself _ & same_itself _ & same_itself _ & same_itself _ & same_itself _
+      & same_itself _ & same_itself _ & same_itself _ & tt)
 
   -- a challenge and the game that it starts are put
   begun_decided : (c : Challenge) (a : Answer) (changes : Changes) (id : ℕ) → c.standing ≡ Accepted id
@@ -93,6 +94,7 @@ module _ (s : ClubState) (is_club : IsClub s) (moment : ℕ) where
       (with_challenge (with_imported s moment game) moment c) (given_is.Accepted a) changes moment _ refl
       (sym (ap (λ g. with_challenge (with_imported s moment g) moment c) (game_is s moment c)))
       (subst (λ z. Puts changes moment (begun_rows s.events moment c (challenge_row c ∷ []) z)) is begun.puts)
+      (inr (refl, refl, refl))
       (moment_put s moment
       & same_itself _ & same_itself _
       & challenge-put s.challenges c is_club.challenge_numbers
@@ -101,7 +103,7 @@ module _ (s : ClubState) (is_club : IsClub s) (moment : ℕ) where
       & row_added (row_of_game both_games s.events) (first_of_game both_games s.events) s.games game
       & altered (0 ∷ 1 ∷ []) _ _ _ (seen-added both_games s.games game)
       & same_by _ _ (sym (scores_seated both_games s.games game running))
-      & same_itself _ & tt)
+      & same_itself _ & same_itself _ & same_itself _ & same_itself _ & tt)
 
   -- an accepted answer is put
   pub answer_decided : (accept : Bool) (c : Challenge) (a : Answer) (changes : Changes)
@@ -145,10 +147,10 @@ unless_leaves games accept (Some r) refusal o answers = tt
 unless_leaves games accept None (Some why) o answers = tt
 unless_leaves games accept None None o answers = answers
 
-answer_leaves : (under : Option Challenge) (games caller : ℕ) (accept : Bool)
-    → AnswersTo games accept (answer_step under games caller accept)
-answer_leaves None games caller accept = tt
-answer_leaves (Some c) games caller accept = here (c.other == caller)
+answer_leaves : (events : List Event) (under : Option Challenge) (games caller : ℕ) (accept : Bool)
+    → AnswersTo games accept (answer_step events under games caller accept)
+answer_leaves events None games caller accept = tt
+answer_leaves events (Some c) games caller accept = here (c.other == caller)
   where
     answered_so : (accept : Bool) → AnswersTo games accept (answers c games accept)
     answered_so true = refl
@@ -157,15 +159,17 @@ answer_leaves (Some c) games caller accept = here (c.other == caller)
     here : (b : Bool) → AnswersTo games accept
         (if
         b then (unless_repeat (repeat_of_answer c.number c.standing accept)
-        (unless (answer_refusal c.standing games accept) (answers c games accept))) else refused UnknownChallenge)
+        (unless (answer_refusal c.standing games (is_closed events c.event) accept) (answers c games accept)))
+        else refused UnknownChallenge)
     here true = unless_leaves games accept (repeat_of_answer c.number c.standing accept)
-        (answer_refusal c.standing games accept) (answers c games accept) (answered_so accept)
+        (answer_refusal c.standing games (is_closed events c.event) accept) (answers c games accept)
+        (answered_so accept)
     here false = tt
 
-pub member_answers : (who : Caller) (under : Option Challenge) (games : ℕ) (accept : Bool)
-    → AnswersTo games accept (by_member who (λ m. answer_step under games m accept))
-member_answers Officer under games accept = tt
-member_answers (Member id) under games accept = answer_leaves under games id accept
+pub member_answers : (who : Caller) (events : List Event) (under : Option Challenge) (games : ℕ) (accept : Bool)
+    → AnswersTo games accept (by_member who (λ m. answer_step events under games m accept))
+member_answers Officer events under games accept = tt
+member_answers (Member id) events under games accept = answer_leaves events under games id accept
 
 -- ---- the game of an accepted challenge
 

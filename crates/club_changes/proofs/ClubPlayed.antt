@@ -35,17 +35,16 @@ use Rattle.store_tables.specs.declared.rows.Changes.{Changes}
 use Rattle.club_changes.specs.declared.decided.CommandEffect.{CommandEffect}
 use Rattle.club_rows.specs.Club.{both_games, ClubState, IsClub, tables}
 use Rattle.sqlite.specs.Order.{Row}
-use Rattle.store_tables.specs.internal.Changed.{changed}
 use Rattle.club_changes.specs.Steps.{HaveSame}
-use Rattle.club_changes.specs.internal.Steps.{caller_step, AreSame, Puts, PutsScoresOf, PutsMove, PutsRow, PutsGame}
-use Rattle.club_changes.specs.internal.Steps.{no_rows, IsDecided, IsDecidedIn, changed_if, first_row, first_seen_rows}
+use Rattle.club_changes.specs.internal.Steps.{caller_step, Makes, Puts, PutsScoresOf, PutsMove, PutsRow, PutsGame}
+use Rattle.club_changes.specs.internal.Steps.{no_rows, IsDecided, IsDecidedIn, first_row, first_seen_rows}
 use Rattle.club_changes.specs.internal.Steps.{started}
 use Rattle.club_changes.specs.internal.Steps.{started_seen}
 use Rattle.store_tables.specs.internal.Changes.{put_rows}
 use Rattle.store_tables.proofs.Proved.{altered}
 use Rattle.club_changes.proofs.PutSame.{◌&◌, same_by, same_itself, one_row_more, row_replaced, rows_kept}
 use Rattle.club_changes.proofs.NextRows.{fresh, first_of_game}
-use Rattle.club_changes.proofs.OutcomeLemmas.{none_decided, answered_mapped, same_content, moment_put}
+use Rattle.club_changes.proofs.OutcomeLemmas.{none_decided, answered_mapped, nothing_made, moment_put}
 use Rattle.club_changes.proofs.ChangedLemmas.{all_changed}
 use Rattle.club_changes.proofs.PlayedLemmas.{budget_most, since_within}
 
@@ -130,16 +129,17 @@ module _ {P M E T : Type 0} {laws : GameRules P M E T} {kind : GameKind} (k : Ki
   -- the rows that are put make the tables of the club with the game after the move
   put_at : (n moment : ℕ) (g new : Game M) (c : Changes) → slice_get s.games n ≡ Some (k.into g)
       → PutsMove laws (terms_at (place s.events g.event)) (1 + n) moment (tables s 14) g new c
-      → AreSame (changed c (tables s)) (tables (set_to n moment new))
+      → Makes s (set_to n moment new) (Some c)
   put_at n moment g new c at p =
       let made : Row = made_row (1 + n) p.reply moment in
       let row = row_is n g new p.event in
       let grown = moves_of_it n g new p.event
       ∙ (p.grown ∙ ap (λ rs. rs ++ made ∷ []) (sym (k.moves s.events (1 + n) g))) in
       let count = k.plies g in
-      all_changed c moment _ (tables s) (tables (set_to n moment new))
+      all_changed s (set_to n moment new) c moment _
       (subst (Puts c moment)
       (λ j. record no_rows { games = row j ∷ []; moves = made ∷ []; seen = p.seen ∷ []; scores = p.scores }) p.puts)
+      (inr (refl, refl, refl))
       (moment_put s moment
       & same_itself _ & same_itself _ & same_itself _
       & one_row_more (rows_of_moves both_games s.events) s.games n (k.into g) (k.into new) at made grown
@@ -151,18 +151,19 @@ module _ {P M E T : Type 0} {laws : GameRules P M E T} {kind : GameKind} (k : Ki
       (rw (k.seen (1 + n) g, k.seen (1 + n) new)
       (entry-alters laws (1 + n) g new p.entry p.seen p.entries p.seen_is)))
       & scores_by_result n g new at p.running (result_of laws new) p.scores refl p.scores_are
-      & same_itself _ & tt)
+      & same_itself _ & same_itself _ & same_itself _ & same_itself _ & tt)
 
   -- and so do those of a game that changes without a move
   change_at : (n moment : ℕ) (g new : Game M) (c : Changes) → slice_get s.games n ≡ Some (k.into g)
       → PutsRow laws (terms_at (place s.events g.event)) (1 + n) moment (tables s 14) g new c
-      → AreSame (changed c (tables s)) (tables (set_to n moment new))
+      → Makes s (set_to n moment new) (Some c)
   change_at n moment g new c at p =
       let row = row_is n g new p.event in
       let stays = moves_of_it n g new p.event ∙ (p.stays ∙ sym (k.moves s.events (1 + n) g)) in
       let seen = k.seen (1 + n) new ∙ (seen-stay laws (1 + n) new g p.entries ∙ sym (k.seen (1 + n) g)) in
-      all_changed c moment _ (tables s) (tables (set_to n moment new))
+      all_changed s (set_to n moment new) c moment _
       (subst (Puts c moment) (λ j. record no_rows { games = row j ∷ []; scores = p.scores }) p.puts)
+      (inr (refl, refl, refl))
       (moment_put s moment
       & same_itself _ & same_itself _ & same_itself _
       & rows_kept (rows_of_moves both_games s.events) s.games n (k.into g) (k.into new) at stays
@@ -170,24 +171,23 @@ module _ {P M E T : Type 0} {laws : GameRules P M E T} {kind : GameKind} (k : Ki
       (k.into new) at
       & rows_kept (rows_of_seen both_games) s.games n (k.into g) (k.into new) at seen
       & scores_by_result n g new at p.running (result_of laws new) p.scores refl p.scores_are
-      & same_itself _ & tt)
+      & same_itself _ & same_itself _ & same_itself _ & same_itself _ & tt)
 
   put_game : (id moment : ℕ) (g : Game M) → place s.games id ≡ Some (k.into g)
       → (o : Outcome (Game M)) (c : Option Changes)
       → PutsGame laws (terms_at (place s.events g.event)) id moment (tables s 14) g o c
-      → AreSame (changed_if c (tables s))
-      (tables (state_after s (map_outcome (λ new. with_game s moment id (k.into new)) o)))
+      → Makes s (state_after s (map_outcome (λ new. with_game s moment id (k.into new)) o)) c
   put_game id moment g at (accepted new reply) (Some c) p =
       let (n, id_is, stands) = place_at s.games id (k.into g) at in
       let back : (1 + n) - 1 ≡ n = omega arith in
       let there : n ≡ id - 1 = sym (ap (λ i. i - 1) id_is ∙ back) in
-      subst (λ m. AreSame (changed c (tables s)) (tables (set_to m moment new))) there
+      subst (λ m. Makes s (set_to m moment new) (Some c)) there
       (elim (rw id_is at p) [
         | inl made ↦ put_at n moment g new c stands made
         | inr row ↦ change_at n moment g new c stands row
       ])
-  put_game id moment g at (repeated reply) None p = same_content s
-  put_game id moment g at (refused refusal) None p = same_content s
+  put_game id moment g at (repeated reply) None p = nothing_made s
+  put_game id moment g at (refused refusal) None p = nothing_made s
   put_game id moment g at (accepted new reply) None p = absurd p
   put_game id moment g at _ (Some c) p = absurd p
 
@@ -203,7 +203,7 @@ module _ {P M E T : Type 0} {laws : GameRules P M E T} {kind : GameKind} (k : Ki
       let step = ap (step_game both_games s moment id who command) at ∙ k.step s moment id who command g in
       record {
         answer = decided.answer ∙ (sym (answered_mapped s f o) ∙ ap answered (sym step));
-        rows = subst (λ x. AreSame (changed_if d.changes (tables s)) (tables (state_after s x))) (sym step)
+        makes = subst (λ x. Makes s (state_after s x) d.changes) (sym step)
             (put_game id moment g at o d.changes decided.puts);
       }
 

@@ -141,26 +141,26 @@ module _ {A : Type 0} {row : ℕ → A → Row} {c : ℕ} {key_of : A → Option
 abbrev asked : List ℕ → Row
 asked key = Null ∷ Null ∷ Text key ∷ []
 
-members_keyed : (s : ClubState) → IsClub s → (key : List ℕ)
-    → AreKeyed member_row 2 (λ m. Some m.key) key (asked key) s.members
-members_keyed s is_club key = record {
-  shows = λ id m. refl;
-  wants = refl;
-  only = λ m n x y one two p q. is_club.member_keys m n x y one two
-      (same_Some x.key key p ∙ sym (same_Some y.key key q));
-}
+module _ (s : ClubState) (key : List ℕ) where
+  -- the row that is found for a key is that of the member whose first key it is
+  pub first_key_found : (found : List Row) (z : Row) → AreThose (2 ∷ []) (asked key) (tables s 1) found → Has found z
+      → (n : ℕ) × (m : Member) × (slice_get s.members n ≡ Some m) × (m.key ≡ key) × (z ≡ member_row (1 + n) m)
+  unfolding first_key
+  first_key_found found z those has =
+      let those_z = those.sound z has in
+      let (n, m, at, is) = numbered_had member_row 1 s.members z those_z.0 in
+      let same : same_key (2 ∷ []) (member_row (1 + n) m) (asked key) ≡ true =
+      subst (λ w. same_key (2 ∷ []) w (asked key) ≡ true) is those_z.1 in
+      (n, m, at, same_Some m.key key (text_same (Some m.key) key (and_parts _ true same).0), is)
 
-module _ (s : ClubState) (is_club : IsClub s) (key : List ℕ) where
-  pub with_some : (found : List Row) (z : Row) (who : Caller) → AreThose (2 ∷ []) (asked key) (tables s 1) found
-      → Has found z → ((id : ℕ) (m : Member) → z ≡ member_row id m → who ≡ caller.Member id)
-      → Some who ≡ caller_found (find_id (has_member_key key) s.members)
-  with_some found z who those has tells =
-      let (id, m, at, is, found_is) = one_found (members_keyed s is_club key) found z those has in
-      ap Some (tells id m is) ∙ ap caller_found (sym found_is)
-
-  pub with_none : (found : List Row) → AreThose (2 ∷ []) (asked key) (tables s 1) found → found ≡ []
-      → ◌≡◌ {A = Option Caller} None (caller_found (find_id (has_member_key key) s.members))
-  with_none found those none = ap caller_found (sym (none_found (members_keyed s is_club key) found those none))
+  -- where none is found, it is nobody's first key
+  pub first_key_missing : (found : List Row) → AreThose (2 ∷ []) (asked key) (tables s 1) found → found ≡ []
+      → (n : ℕ) (m : Member) → slice_get s.members n ≡ Some m → m.key ≡ key → ⊥
+  unfolding first_key
+  first_key_missing found those none n m at is =
+      subst (λ l. Has l (member_row (1 + n) m)) none
+      (those.complete (member_row (1 + n) m) (numbered_has member_row 1 s.members n m at)
+      (and_from _ true (text_itself (Some m.key) key (ap Some is)) refl))
 
 -- what is found for the id of an element is its row
 numbered_found : {A : Type 0} (row : ℕ → A → Row) → ((n : ℕ) (x : A) → column (row n x) 0 ≡ number n) → (xs : List A)

@@ -45,7 +45,6 @@ use Rattle.club_changes.proofs.SeenTexts.{drop-mapped}
 use Rattle.club_changes.specs.internal.NewGames.{AreNewRows}
 use Rattle.club_changes.specs.declared.imported.added.NewRows.{NewRows}
 use Rattle.store_tables.specs.Cells.{game_cells, move_cells, seen_cells}
-use Rattle.store_tables.specs.internal.Changed.{changed}
 use Rattle.store_tables.specs.declared.rows.Changes.{Changes}
 use Rattle.club_changes.specs.declared.decided.CommandEffect.{CommandEffect}
 use Rattle.club_changes.specs.declared.stored.StoredGame.{StoredGame}
@@ -53,12 +52,12 @@ use Rattle.club_changes.specs.declared.imports.ImportContext.{ImportContext}
 use Rattle.club_changes.specs.internal.Importing.{TellsLine, IsUnder, IsKnown, IsOfKind, imported_by, PutsNewGame}
 use Rattle.club_changes.specs.internal.Importing.{PutsImport}
 use Rattle.club_changes.specs.internal.Importing.{IsImportedIn}
-use Rattle.club_changes.specs.internal.Steps.{AreSame, Puts, caller_step, IsDecided, changed_if, no_rows}
+use Rattle.club_changes.specs.internal.Steps.{Makes, Puts, caller_step, IsDecided, no_rows}
 use Rattle.club_changes.proofs.FoundMoves.{of_game, in_table, id_of}
 use Rattle.club_changes.proofs.GameRows.{stored_as}
 use Rattle.club_changes.proofs.ImportedTables.{game_more}
 use Rattle.club_changes.proofs.NextRows.{moves_had}
-use Rattle.club_changes.proofs.OutcomeLemmas.{same_content, answered_officer, unrefused}
+use Rattle.club_changes.proofs.OutcomeLemmas.{nothing_made, answered_officer, unrefused}
 use Rattle.club_changes.proofs.PutSame.{ids_agree, ids_same, gathered_had}
 
 -- ---- the rows of one game's moves
@@ -185,7 +184,7 @@ module _ {P M E T : Type 0} {laws : GameRules P M E T} {kind : GameKind} (k : Ki
 
     put_new : (i : Imported M) (c : Changes)
         → PutsNewGame laws (terms_at (place s.events i.pairing.event)) (length s.games + 1) moment (tables s 14)
-        (new_game i) c → AreSame (changed c (tables s)) (tables (added i))
+        (new_game i) c → Makes s (added i) (Some c)
     put_new i c p =
         let new = new_game i in
         let n = 1 + length s.games in
@@ -199,13 +198,13 @@ module _ {P M E T : Type 0} {laws : GameRules P M E T} {kind : GameKind} (k : Ki
 
     put_import : (who : Caller) (look : Outcome (Imported M)) (c : Option Changes)
         → PutsImport laws s.events given.key (length s.games) moment (tables s 14) (by_officer who look) c
-        → AreSame (changed_if c (tables s)) (tables (state_after s (by_officer who (map_outcome added look))))
+        → Makes s (state_after s (by_officer who (map_outcome added look))) c
     put_import Officer (accepted i reply) (Some c) p = put_new i c p
-    put_import Officer (repeated reply) None p = same_content s
-    put_import Officer (refused refusal) None p = same_content s
+    put_import Officer (repeated reply) None p = nothing_made s
+    put_import Officer (refused refusal) None p = nothing_made s
     put_import Officer (accepted i reply) None p = absurd p
     put_import Officer _ (Some c) p = absurd p
-    put_import (Member m) look None p = same_content s
+    put_import (Member m) look None p = nothing_made s
     put_import (Member m) look (Some c) p = absurd p
 
     -- what was decided by the records of the event's kind was decided in the club
@@ -221,7 +220,7 @@ module _ {P M E T : Type 0} {laws : GameRules P M E T} {kind : GameKind} (k : Ki
         let found = rw (is.members_are, is.events_are, is.keyed_is, is.games_are) at decided in
         record {
           answer = found.answer ∙ (sym (answered_officer s added who look) ∙ ap answered (sym step));
-          rows = subst (λ x. AreSame (changed_if d.changes (tables s)) (tables (state_after s x))) (sym step)
+          makes = subst (λ x. Makes s (state_after s x) d.changes) (sym step)
               (put_import who look d.changes found.puts);
         }
 

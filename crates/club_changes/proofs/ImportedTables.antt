@@ -1,5 +1,5 @@
 -- The tables of a club with a game more, which has rows in each of them.
-use Rattle.std.proofs.Common.{◌≡◌, ℕ, ◌+◌, List, [], ◌∷◌, ◌++◌, length, Some, true, subst, arith}
+use Rattle.std.proofs.Common.{◌≡◌, ℕ, ◌+◌, List, [], ◌∷◌, ◌++◌, length, Some, true, subst, arith, inr, refl}
 use Rattle.std.specs.Prelude.{slice_get}
 use Rattle.sqlite.specs.Order.{Row}
 use Rattle.sqlite_rules.specs.Lists.{Has}
@@ -11,12 +11,11 @@ use Rattle.club_rows.specs.Club.{ClubGame, ClubState, both_games, tables}
 use Rattle.club_rows.specs.Tables.{move_rows, row_of_game, rows_of_moves, rows_of_seen}
 use Rattle.club_rows.specs.Scores.{scores_in}
 use Rattle.club_rows.proofs.Proved.{gathered-added, seen-added}
-use Rattle.store_tables.specs.internal.Changed.{changed}
 use Rattle.store_tables.specs.internal.Changes.{Alters}
 use Rattle.store_tables.specs.Content.{same_key}
 use Rattle.store_tables.specs.declared.rows.Changes.{Changes}
 use Rattle.store_tables.proofs.Proved.{altered}
-use Rattle.club_changes.specs.internal.Steps.{AreSame, Puts, no_rows}
+use Rattle.club_changes.specs.internal.Steps.{Makes, Puts, no_rows}
 use Rattle.club_changes.proofs.ChangedLemmas.{all_changed}
 use Rattle.club_changes.proofs.NextRows.{move_rows_had, first_of_game, moves_had}
 use Rattle.club_changes.proofs.OutcomeLemmas.{moment_put}
@@ -53,10 +52,10 @@ pub game_more : (s : ClubState) (new : ClubGame) (moment : ℕ) (c : Changes) (s
       seen = rows_of_seen both_games (1 + length s.games) new;
       scores = scores;
     })
-    → AreSame (changed c (tables s)) (tables (with_imported s moment new))
+    → Makes s (with_imported s moment new) (Some c)
 game_more s new moment c scores put are =
     let moves = rows_of_moves both_games s.events in
-    all_changed c moment _ (tables s) (tables (with_imported s moment new)) are
+    all_changed s (with_imported s moment new) c moment _ are (inr (refl, refl, refl))
     (moment_put s moment
     & same_itself _ & same_itself _ & same_itself _
     & altered (0 ∷ 1 ∷ []) _ _ _
@@ -64,4 +63,4 @@ game_more s new moment c scores put are =
     & row_added (row_of_game both_games s.events) (first_of_game both_games s.events) s.games new
     & altered (0 ∷ 1 ∷ []) _ _ _ (seen-added both_games s.games new)
     & altered (0 ∷ 1 ∷ 2 ∷ []) _ _ _ put
-    & same_itself _ & tt)
+    & same_itself _ & same_itself _ & same_itself _ & same_itself _ & tt)

@@ -194,4 +194,7 @@ leaves_others s moment = record {
       (λ g. rows_stay both_games.shogi (terms_at (place s.events g.event)) id (ended g Time) g refl refl)) 1 s.games;
   seen_stays = gathered_stay (rows_of_seen both_games) (swept_any both_games s moment)
       (λ id. swept_keeps s moment (rows_of_seen both_games id) (λ g. refl) (λ g. refl)) 1 s.games;
+  keys_stay = refl;
+  rulings_stay = refl;
+  closings_stay = refl;
 }

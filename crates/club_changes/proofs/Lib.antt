@@ -1,3 +1,4 @@
+pub mod ArbiterTables
 pub mod ChallengeRows
 pub mod ChallengedTables
 pub mod ChangedLemmas

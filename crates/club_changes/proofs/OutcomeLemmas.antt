@@ -1,6 +1,6 @@
 -- What is decided of a command, by what it is answered and the rows that are put.
 use Rattle.std.proofs.Common.{◌≡◌, ℕ, ◌+◌, List, [], ◌∷◌, ◌++◌, length, Option, Some, None, true, false}
-use Rattle.std.proofs.Common.{refl, ap, sym, subst, ◌∙◌, true≢false, arith}
+use Rattle.std.proofs.Common.{refl, ap, sym, subst, ◌∙◌, true≢false, arith, inr}
 use Rattle.std.specs.Prelude.{max}
 use Rattle.club_requests.specs.declared.answers.Outcome as given
 use Rattle.club_requests.specs.declared.answers.Outcome.TheVariants as given_is
@@ -26,14 +26,17 @@ use Rattle.club_core.specs.State.{state_after, is_accepted, add_member, add_even
 use Rattle.club_core.specs.State.{place, with_members, with_events, with_new_game, game_under, caller_of, step_by}
 use Rattle.club_core.proofs.Proved.{none-holds}
 use Rattle.club_laws.proofs.Proved.{unmoved, not-false, three-true}
+use Rattle.sqlite.specs.Order.{Row}
 use Rattle.club_rows.specs.Tables.{member_row, event_row, rule_row, row_of_game, rows_of_moves, meta_row}
+use Rattle.club_rows.specs.Tables.{rows_of_closing, rows_of_keys, version_of}
+use Rattle.store_tables.specs.Tables.{schema_number}
 use Rattle.store_tables.specs.declared.rows.Changes.{Changes}
 use Rattle.club_changes.specs.declared.decided.CommandEffect.{CommandEffect}
 use Rattle.club_rows.specs.Club.{both_games, ClubGame, ClubState, IsClub, tables}
 use Rattle.club_changes.specs.Steps.{request, club_step}
-use Rattle.club_changes.specs.internal.Steps.{caller_step, started, started_seen, started_scores, AreSame}
+use Rattle.club_changes.specs.internal.Steps.{caller_step, started, started_seen, started_scores, AreSame, AreTaken}
 use Rattle.club_changes.specs.Steps.{HaveSame}
-use Rattle.club_changes.specs.internal.Steps.{Puts, PutRows, no_rows, IsDecided, changed_if}
+use Rattle.club_changes.specs.internal.Steps.{Puts, PutRows, no_rows, IsDecided, Makes}
 use Rattle.club_rows.proofs.Proved.{scores_seated, seen-added}
 use Rattle.store_tables.proofs.Proved.{altered}
 use Rattle.store_tables.specs.internal.Changed.{changed}
@@ -43,15 +46,23 @@ use Rattle.club_changes.proofs.PutSame.{numbered_alike, gathered_alike}
 use Rattle.club_changes.proofs.NextRows.{first_of_game, rows_before, no_moves}
 use Rattle.club_changes.proofs.ChangedLemmas.{all_changed, with_rows}
 
+-- the row of `meta` of the club with this last timestamp
+abbrev pub row_at : ClubState → ℕ → Row
+row_at s moment = meta_row (schema_number (version_of s)) moment
+
 -- the row of the last accepted command is replaced
 pub moment_put : (s : ClubState) (moment : ℕ)
-    → HaveSame (put (0 ∷ []) (meta_row 2 moment) (meta_row 2 s.last ∷ [])) (meta_row 2 moment ∷ [])
-moment_put s moment = one_replaced (meta_row 2 s.last) (meta_row 2 moment) 1 refl refl
+    → HaveSame (put (0 ∷ []) (row_at s moment) (row_at s s.last ∷ [])) (row_at s moment ∷ [])
+moment_put s moment = one_replaced (row_at s s.last) (row_at s moment) 1 refl refl
 
-pub same_content : (s : ClubState) → AreSame (tables s) (tables s)
-same_content s =
-    same_itself _ & same_itself _ & same_itself _ & same_itself _ & same_itself _ & same_itself _
-    & same_itself _ & same_itself _ & same_itself _ & tt
+-- where nothing is put, the tables stay
+pub nothing_made : (s : ClubState) → Makes s s None
+nothing_made s = record {
+  fits = tt;
+  rows =
+      same_itself _ & same_itself _ & same_itself _ & same_itself _ & same_itself _ & same_itself _
+      & same_itself _ & same_itself _ & same_itself _ & same_itself _ & same_itself _ & same_itself _ & tt;
+}
 
 accepted_alike : {S : Type 0} (o : Outcome S) → is_accepted (answered o) ≡ is_accepted o
 accepted_alike (accepted new reply) = refl
@@ -65,19 +76,17 @@ none_decided s after d o is none answer not_accepted =
     let stays = unmoved s after (sym (accepted_alike after) ∙ (ap is_accepted (sym answer) ∙ not_accepted)) in
     record {
       answer = ap outcome_of is ∙ answer;
-      rows = subst (λ n. AreSame (changed_if d.changes (tables s)) (tables n)) (sym stays)
-          (subst (λ c. AreSame (changed_if c (tables s)) (tables s)) (sym none) (same_content s));
+      makes = subst (λ n. Makes s n d.changes) (sym stays) (subst (Makes s s) (sym none) (nothing_made s));
     }
 
 -- where a command is accepted, the rows that are put make the tables of the state after it
 pub all_decided : (s : ClubState) (after : Outcome ClubState) (new : ClubState) (o : given.Outcome) (c : Changes)
     (moment : ℕ) (rows : PutRows) → outcome_of o ≡ answered after → state_after s after ≡ new → Puts c moment rows
-    → AreSame (with_rows moment rows (tables s)) (tables new)
+    → AreTaken s rows → AreSame (with_rows (version_of s) moment rows (tables s)) (tables new)
     → IsDecided s after (record { outcome = o; changes = Some c })
-all_decided s after new o c moment rows answer stands are same = record {
+all_decided s after new o c moment rows answer stands are taken same = record {
   answer = answer;
-  rows = subst (λ n. AreSame (changed c (tables s)) (tables n)) (sym stands)
-      (all_changed c moment rows (tables s) (tables new) are same);
+  makes = subst (λ n. Makes s n (Some c)) (sym stands) (all_changed s new c moment rows are taken same);
 }
 
 module _ {T : Type 0} (s : ClubState) (f : T → ClubState) where
@@ -98,7 +107,7 @@ module _ {T : Type 0} (s : ClubState) (f : T → ClubState) where
   officer_added Officer None None t r is = refl
   officer_added _ _ _ t r is = absurd (true≢false (sym is))
 
-  officer_stands : (who : Caller) (o : Outcome T) (t : T) (reply : Reply) → accepted t reply ≡ by_officer who o
+  pub officer_stands : (who : Caller) (o : Outcome T) (t : T) (reply : Reply) → accepted t reply ≡ by_officer who o
       → state_after s (by_officer who (map_outcome f o)) ≡ f t
   officer_stands (Member id) o t reply is = cc
   officer_stands Officer (accepted u r) t reply is = let e : u ≡ t = cc in ap f e
@@ -118,20 +127,24 @@ module _ {T : Type 0} (s : ClubState) (f : T → ClubState) where
 pub member_decided : (s : ClubState) (moment : ℕ) (who : Caller) (name key : List ℕ) (o : given.Outcome) (c : Changes)
     → outcome_of o ≡ answered (by_officer who (member_step s.members name key)) → is_accepted (outcome_of o) ≡ true
     → Puts c moment
-    (record no_rows { members = member_row (1 + length s.members) (record { name = name; key = key }) ∷ [] })
+    (record no_rows {
+      members = member_row (1 + length s.members) (record { name = name; key = key; later = [] }) ∷ [];
+    })
     → IsDecided s (caller_step s moment who (add_member name key)) (record { outcome = o; changes = Some c })
 member_decided s moment who name key o c answer is_in are =
-    let m : core_members.Member = record { name = name; key = key } in
+    let m : core_members.Member = record { name = name; key = key; later = [] } in
     let f = with_members s moment in
     all_decided s (caller_step s moment who (add_member name key)) (f (s.members ++ m ∷ [])) o c moment _
     (answer ∙ sym (answered_officer s f who (member_step s.members name key)))
     (officer_added s f who (same_member s.members name key) (member_refusal s.members name key) (s.members ++ m ∷ [])
     (member_added (length s.members + 1)) (ap is_accepted (sym answer) ∙ is_in))
-    are
+    are (inr (refl, refl, refl))
     (moment_put s moment
     & row_added member_row (λ id x. refl) s.members m
     & same_itself _ & same_itself _ & same_itself _ & same_itself _ & same_itself _ & same_itself _
-    & same_itself _ & tt)
+    & same_itself _
+    & nothing_added rows_of_keys s.members m (λ id. refl)
+    & same_itself _ & same_itself _ & tt)
 
 pub event_decided : (s : ClubState) (moment : ℕ) (who : Caller) (e : Event) (o : given.Outcome) (c : Changes) → IsClub s
     → outcome_of o ≡ answered (by_officer who (event_step s.events e)) → is_accepted (outcome_of o) ≡ true
@@ -148,7 +161,7 @@ event_decided s moment who e o c club answer is_in are =
     (answer ∙ sym (answered_officer s f who (event_step s.events e)))
     (officer_added s f who (same_event s.events e) (event_refusal s.events e) (s.events ++ new ∷ [])
     (event_added (length s.events + 1)) (ap is_accepted (sym answer) ∙ is_in))
-    are
+    are (inr (refl, refl, refl))
     (moment_put s moment
     & same_itself _
     & row_added event_row (λ id x. refl) s.events new
@@ -160,7 +173,9 @@ event_decided s moment who e o c club answer is_in are =
     (numbered_alike (row_of_game both_games s.events) (row_of_game both_games (s.events ++ new ∷ [])) 1 s.games
     (λ n g at id. (rows_before both_games s new g (club.games n g at) id).0))
     & same_itself _ & same_itself _
-    & row_added rule_row (λ id x. refl) s.events new & tt)
+    & row_added rule_row (λ id x. refl) s.events new
+    & same_itself _ & same_itself _
+    & nothing_added rows_of_closing s.events new (λ id. refl) & tt)
 
 -- ---- what an accepted command meets
 
@@ -232,7 +247,7 @@ seat_decided s moment who key event first second p id c club answer are running 
     all_decided s (caller_step s moment who (seat key event first second)) (f p) (given_is.Accepted (answer_is.Game id))
     c moment _ (ap answered answer ∙ sym (answered_officer s f who step))
     (officer_stands s f who step p (game_seated id) answer)
-    (rw same_id at are)
+    (rw same_id at are) (inr (refl, refl, refl))
     (moment_put s moment
     & same_itself _ & same_itself _ & same_itself _
     & nothing_added (rows_of_moves both_games s.events) s.games new
@@ -240,7 +255,7 @@ seat_decided s moment who key event first second p id c club answer are running 
     & row_added (row_of_game both_games s.events) (first_of_game both_games s.events) s.games new
     & altered (0 ∷ 1 ∷ []) _ _ _ (seen-added both_games s.games new)
     & same_by _ _ (sym (scores_seated both_games s.games new running))
-    & same_itself _ & tt)
+    & same_itself _ & same_itself _ & same_itself _ & same_itself _ & tt)
 
 -- ---- who asks
 

@@ -4,8 +4,8 @@ pub use Rattle.club_changes.proofs.ChallengedTables.{member_answers, member_mapp
 pub use Rattle.club_changes.proofs.ClubPlayed.{place_at, unknown_decided}
 pub use Rattle.club_changes.proofs.FoundLemmas.{moved, on_ok}
 pub use Rattle.club_changes.proofs.FoundMoves.{id_of, in_table, of_game, past_none, ply_is, tells_moves}
-pub use Rattle.club_changes.proofs.FoundPeople.{event_found, member_found, name_same, rule_found, with_none}
-pub use Rattle.club_changes.proofs.FoundPeople.{with_some}
+pub use Rattle.club_changes.proofs.FoundPeople.{event_found, member_found, name_same, rule_found}
+pub use Rattle.club_changes.proofs.FoundPeople.{first_key_found, first_key_missing, text_itself, text_same}
 pub use Rattle.club_changes.proofs.GameRows.{event_stands, id_none, id_some, ids_read, none_stored, pairing_same}
 pub use Rattle.club_changes.proofs.GameRows.{no_such_number, players_stand, stored_as, stored_decided, tells-seen}
 pub use Rattle.club_changes.proofs.GameRows.{under_none, under_some, under_stored}
@@ -22,4 +22,4 @@ pub use Rattle.club_changes.proofs.ReadRows.{all_read, first_is, first_mapped, m
 pub use Rattle.club_changes.proofs.ReadRows.{one_more_read}
 pub use Rattle.club_changes.proofs.ReadRows.{placed, row_at_place, score_first}
 pub use Rattle.club_changes.proofs.SweptTables.{member_refused}
-pub use Rattle.club_changes.proofs.PlacedIds.{numbered_at, pos_same}
+pub use Rattle.club_changes.proofs.PlacedIds.{drop_next, numbered_at, pos_same}

@@ -165,12 +165,12 @@ module _ {A : Type 0} (rows : ℕ → A → List Row) where
     has_new z h = gathered_has rows 1 (slice_set xs i new) i new z (put-at xs i old new at_i) h
 
     -- one element gets one row more, whose key no row has
-    pub one_row_more : (r : Row) → rows (1 + i) new ≡ rows (1 + i) old ++ r ∷ []
+    pub one_row_more_by : (key : List ℕ) (r : Row) → rows (1 + i) new ≡ rows (1 + i) old ++ r ∷ []
         → ((n : ℕ) (x : A) (z : Row) → slice_get xs n ≡ Some x → Has (rows (1 + n) x) z
-        → same_key (0 ∷ 1 ∷ []) z r ≡ false)
-        → HaveSame (put (0 ∷ 1 ∷ []) r (gathered_from rows 1 xs)) (gathered_from rows 1 (slice_set xs i new))
-    one_row_more r grown fresh = record {
-      there = λ z h. elim (put_had (0 ∷ 1 ∷ []) r (gathered_from rows 1 xs) z h) [
+        → same_key key z r ≡ false)
+        → HaveSame (put key r (gathered_from rows 1 xs)) (gathered_from rows 1 (slice_set xs i new))
+    one_row_more_by key r grown fresh = record {
+      there = λ z h. elim (put_had key r (gathered_from rows 1 xs) z h) [
         | inl is ↦ has_new z (subst (λ l. Has l z) (sym grown) (has_right (rows (1 + i) old) (r ∷ []) z (inl is)))
         | inr was ↦ elim (row_stays z was.0) [
           | inl of_old ↦ has_new z (subst (λ l. Has l z) (sym grown) (has_left (rows (1 + i) old) (r ∷ []) z of_old))
@@ -179,14 +179,21 @@ module _ {A : Type 0} (rows : ℕ → A → List Row) where
       ];
       back = λ z h. elim (row_stood z h) [
         | inl now ↦ elim (has_either (rows (1 + i) old) (r ∷ []) z (subst (λ l. Has l z) grown now)) [
-          | inl before ↦ put_kept (0 ∷ 1 ∷ []) r (gathered_from rows 1 xs) z
+          | inl before ↦ put_kept key r (gathered_from rows 1 xs) z
               (gathered_has rows 1 xs i old z at_i before) (fresh i old z at_i before)
           | inr last ↦ elim last [ inl is ↦ inl is | inr none ↦ absurd none ]
         ]
-        | inr (n, y, was, has) ↦ put_kept (0 ∷ 1 ∷ []) r (gathered_from rows 1 xs) z
+        | inr (n, y, was, has) ↦ put_kept key r (gathered_from rows 1 xs) z
             (gathered_has rows 1 xs n y z was has) (fresh n y z was has)
       ];
     }
+
+    -- the same under a key of two columns
+    pub one_row_more : (r : Row) → rows (1 + i) new ≡ rows (1 + i) old ++ r ∷ []
+        → ((n : ℕ) (x : A) (z : Row) → slice_get xs n ≡ Some x → Has (rows (1 + n) x) z
+        → same_key (0 ∷ 1 ∷ []) z r ≡ false)
+        → HaveSame (put (0 ∷ 1 ∷ []) r (gathered_from rows 1 xs)) (gathered_from rows 1 (slice_set xs i new))
+    one_row_more r grown fresh = one_row_more_by (0 ∷ 1 ∷ []) r grown fresh
 
     -- one element is replaced by another with the same rows
     pub rows_kept : rows (1 + i) new ≡ rows (1 + i) old

@@ -63,13 +63,13 @@ row_at_place cells row rows all same k r within is x at =
 
 pub member_read : (r : MemberRow) (m : given_member.Member) → string_bytes m.name ≡ string_bytes r.name
     → string_bytes m.key ≡ string_bytes r.key → (id : ℕ) (x : Member) → member_cells r ≡ member_row id x
-    → member_of m ≡ x
-member_read r m name key id x same =
+    → map (λ k. string_bytes k) m.later.items ≡ x.later → member_of m ≡ x
+member_read r m name key id x same later =
     let name_is : string_bytes r.name ≡ x.name = cc in
     let key_is : string_bytes r.key ≡ x.key = cc in
     let n = name ∙ name_is in
     let k = key ∙ key_is in
-    λ i. record { name = n i; key = k i }
+    λ i. record { name = n i; key = k i; later = later i }
 
 -- ---- what stands at a place
 

@@ -1,5 +1,5 @@
 -- The tables of a club after a sweep.
-use Rattle.std.proofs.Common.{◌≡◌, ℕ, map, Some, None, refl, ap, sym}
+use Rattle.std.proofs.Common.{◌≡◌, ℕ, map, Some, None, refl, ap, sym, inr}
 use Rattle.store_tables.specs.Cells.{game_cells}
 use Rattle.store_tables.specs.internal.Cells.{score_cells}
 use Rattle.store_tables.specs.declared.rows.Changes.{Changes}
@@ -29,14 +29,16 @@ swept_decided s moment rows swept c are =
     let others : LeavesOthers s moment = leaves_others s moment in
     all_decided s (caller_step s moment Officer sweep) (with_swept both_games s moment)
     (given_is.Accepted (answer_is.Swept rows.count)) c moment _
-    (ap (λ n. outcome_of (given_is.Accepted (answer_is.Swept n))) swept.count_is) refl are
+    (ap (λ n. outcome_of (given_is.Accepted (answer_is.Swept n))) swept.count_is) refl are (inr (refl, refl, refl))
     (moment_put s moment
     & same_by _ _ (sym others.members_stay) & same_by _ _ (sym others.events_stay)
     & same_by _ _ (sym others.challenges_stay) & same_by _ _ (sym others.moves_stay)
     & swept.games_are
     & same_by _ _ (sym others.seen_stays)
     & swept.scores_are
-    & same_by _ _ (sym others.rules_stay) & tt)
+    & same_by _ _ (sym others.rules_stay)
+    & same_by _ _ (sym others.keys_stay) & same_by _ _ (sym others.rulings_stay)
+    & same_by _ _ (sym others.closings_stay) & tt)
 
 -- a sweep that a member asks for is refused
 pub member_refused : (s : ClubState) (moment : ℕ) (who : Caller) (id : ℕ) (d : CommandEffect) → who ≡ Member id

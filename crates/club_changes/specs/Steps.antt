@@ -1,15 +1,14 @@
 -- The club as a state machine, and the effect of a command on its tables.
-use Rattle.std.specs.Prelude.{◌≤◌, ℕ}
+use Rattle.std.specs.Prelude.{ℕ}
 pub use Rattle.store_tables.specs.Changes.{HaveSame}
 use Rattle.club_requests.specs.declared.requests.Who as given_who
 use Rattle.club_requests.specs.declared.requests.Command as given_command
-use Rattle.club_requests.specs.Limits.{last_moment}
 use Rattle.club_requests.specs.Outcome.{Outcome}
 use Rattle.club_core.specs.Answer.{who_of, command_of}
 use Rattle.club_core.specs.State.{Command, Request, step}
 use Rattle.club_core.specs.State.{next}
 pub use Rattle.club_rows.specs.internal.LegalRows.{IsRecordOf}
-use Rattle.club_rows.specs.Club.{both_games, ClubState, IsClub}
+use Rattle.club_rows.specs.Club.{both_games, ClubState}
 
 -- ---- the state machine
 
@@ -24,7 +23,3 @@ club_step = step both_games
 -- the state of the club after a request
 abbrev pub club_next : ClubState → Request → ClubState
 club_next = next both_games
-
--- a request with a timestamp in range keeps a legal state legal
-abbrev pub KeepsClub : Type 0
-KeepsClub = (s : ClubState) (r : Request) → r.moment ≤ last_moment → IsClub s → IsClub (club_next s r)

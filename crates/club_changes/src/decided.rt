@@ -9,7 +9,7 @@ use clocks::Moment;
 use club_requests::Outcome;
 use club_rows::numbers::to_i64;
 use std::alloc::Global;
-use store_tables::{Changes, MetaRow};
+use store_tables::Changes;
 
 /// The effect of a command.
 #[derive(Drop)]
@@ -31,7 +31,7 @@ pub fn without_changes(outcome: Outcome) -> CommandEffect
     }
 }
 
-// Only the row of `meta`, with the timestamp of an accepted command.
+// No rows, only the timestamp of an accepted command.
 pub(crate) fn changes_at(alloc: Global, moment: Moment) -> Changes
     ensures { Puts result moment no_rows }
 {
@@ -44,11 +44,10 @@ pub(crate) fn changes_at(alloc: Global, moment: Moment) -> Changes
         moves: Vec::new(alloc),
         seen: Vec::new(alloc),
         scores: Vec::new(alloc),
-        meta: Some(MetaRow {
-            id: 1,
-            schema: 2,
-            last: to_i64(moment.seconds()),
-        }),
+        keys: Vec::new(alloc),
+        rulings: Vec::new(alloc),
+        closings: Vec::new(alloc),
+        last: Some(to_i64(moment.seconds())),
     }
 }
 

@@ -61,6 +61,8 @@ fn answered_moves(
         Answer::ChallengeWithdrawn { number: _ } => {}
         Answer::ChallengeRefused { number: _ } => {}
         Answer::ChallengeAccepted { number: _, game: _ } => {}
+        Answer::KeyGiven { number: _ } => {}
+        Answer::EventClosed => {}
     }
     Ok(rows)
 }

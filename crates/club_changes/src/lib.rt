@@ -7,6 +7,7 @@
 //!
 //! - `on_member` (`acts`, `step`), `on_event` (`acts`, `step`): the answer, and the rows that give the tables of the
 //!   next state.
+//! - `on_key` (`acts`, `step`), `on_closing` (`acts`, `step`): the same for a club with an arbiter.
 //! - `put_decision` (`step`), `sweep_games` (`step`), `put_challenge` (`step`), `put_answered` (`step`): the upserted
 //!   rows give the tables of the next state. Nothing is upserted unless the command is accepted.
 //! - `seated_rows` (`puts`), `put_rows`, `new_rows`: the rows of a new game, and of an imported game, its plies and
@@ -18,6 +19,7 @@
 //!   reported inconsistent only if there is no such event, or they are those of no club.
 #![tactic(auto)]
 
+pub mod arbiter;
 pub mod challenges;
 pub mod decided;
 pub mod fault;
@@ -32,6 +34,7 @@ pub mod stored;
 pub mod sweep;
 pub mod swept;
 
+pub use arbiter::{needs_arbiter, on_closing, on_key};
 pub use challenges::{put_answered, put_challenge};
 pub use decided::{CommandEffect, without_changes};
 pub use fault::ChangeFault;

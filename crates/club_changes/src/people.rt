@@ -1,6 +1,6 @@
 //! Rows that adding a member or an event adds.
 
-ghost use Rattle.std.specs.Prelude.{◌≡◌, ◌≤◌, ◌<◌, ◌^◌, Some, IfOk};
+ghost use Rattle.std.specs.Prelude.{◌≡◌, ◌≤◌, ◌<◌, ◌^◌, Some, IfOk, []};
 ghost use Rattle.std.specs.Prelude.{length, string_bytes};
 ghost use Rattle.club_core.specs.Answer.{added_event};
 ghost use Rattle.club_core.specs.internal.Answer.{members_of, events_of};
@@ -26,7 +26,7 @@ use store_tables::{EventRow, EventRuleRow, MemberRow};
 
 fn member_row(id: u32, command: &AddMember) -> Result<MemberRow, Memory>
     ensures { IfOk result (λ row. member_cells row ≡ member_row id
-        (record { name = string_bytes command.now.name; key = string_bytes command.now.key })) }
+        (record { name = string_bytes command.now.name; key = string_bytes command.now.key; later = [] })) }
 {
     let name = command.name.clone()?;
     let key = command.key.clone()?;

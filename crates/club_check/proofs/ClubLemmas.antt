@@ -1,6 +1,5 @@
 -- From what was read of the tables to what a fault says of them, and to the club that is stored so.
-use Rattle.std.proofs.Common.{◌≡◌, ◌⊎◌, ℕ, List, [], ◌∷◌, inl, inr, refl, subst, sym, ap, ◌∙◌, Some, get_or, map, true}
-use Rattle.std.proofs.lemmas.Int.{ints}
+use Rattle.std.proofs.Common.{◌≡◌, ◌⊎◌, ℕ, List, [], ◌∷◌, inl, inr, refl, subst, sym, ap, ◌∙◌, Some, get_or, map, take, true}
 use Rattle.std.proofs.Common.{false, true≢false, ℤ, zero, suc, ◌+◌, ◌<◌, length, arith, ◌≤◌, ◌^◌}
 use Rattle.std.specs.List.{AllByRecursion}
 use Rattle.std.specs.List.Sorted.{IsPermutation, IsSorted}
@@ -11,7 +10,8 @@ use Rattle.sqlite.specs.State.{State, IsUnchanged}
 use Rattle.store_tables.specs.Placed.{HasClubTables, HasTablesOf, club_trees}
 use Rattle.store_tables.specs.internal.Reading.{ReturnsRows, AreIds, by_columns}
 use Rattle.store_tables.proofs.Proved.{one_shown, ids_of, apart_of, in_order, one_list, places_rise, has_map}
-use Rattle.store_tables.proofs.Proved.{has_mapped, same_then}
+use Rattle.std.proofs.lemmas.List.Sorted.{IsPermutation-sym, length_permutation}
+use Rattle.store_tables.proofs.Proved.{has_mapped, has_turned, same_then}
 use Rattle.sqlite.proofs.Callers.{unchanged_then}
 use Rattle.sqlite_rules.proofs.ListLemmas.{all_has, has_got}
 use Rattle.store_tables.specs.Cells.{event_cells, game_cells}
@@ -26,13 +26,14 @@ use Rattle.sqlite_trees.specs.View.{is_int}
 use Rattle.std.specs.Prelude.{pos, slice_get, IsTrue}
 use Rattle.store_tables.specs.internal.Rows.{HaveIds}
 use Rattle.store_tables.specs.declared.rows.Rows.{Rows}
-use Rattle.store_tables.specs.Tables.{club_schema, schema_of, schema_number, meta, members, events, games}
-use Rattle.store_tables.specs.internal.Tables.{first_schema}
+use Rattle.store_tables.specs.Tables.{schema_of, schema_number, meta, members, events, games}
+use Rattle.store_tables.specs.internal.Tables.{club_schema, first_schema}
+use Rattle.store_tables.specs.Tables.{tables as all_tables}
 use Rattle.store_tables.specs.Tables.{event_rules, challenges}
 use Rattle.store_tables.specs.declared.rows.EventRow.{EventRow}
 use Rattle.store_tables.specs.declared.rows.EventRuleRow.{EventRuleRow}
 use Rattle.store_tables.specs.declared.names.Version.{Version}
-use Rattle.store_tables.specs.declared.names.Version.TheVariants.{First, Current}
+use Rattle.store_tables.specs.declared.names.Version.TheVariants.{V1, V2, V3}
 use Rattle.store_tables.specs.declared.names.Table.{Table}
 use Rattle.club_check.specs.declared.fault.OpenFault.{OpenFault}
 use Rattle.store_sql.specs.declared.fault.ReadFault.{ReadFault}
@@ -41,11 +42,11 @@ use Rattle.club_check.specs.internal.Faults.{told}
 use Rattle.club_check.specs.declared.fault.OpenFault.TheVariants.{Foreign, Memory, Store, Schema, Damaged}
 use Rattle.club_check.specs.ReasonIsRight.{HasNumber, HasTypes, IsOneMeta, IsRightFault, NamesForeign}
 use Rattle.club_check.specs.internal.ReasonIsRight.{AreRead, ReasonIsRight, IsMetaRead}
-use Rattle.club_check.specs.ReasonIsRight.{IsNumberFrom, NamesSchema, NamesTable}
+use Rattle.club_check.specs.ReasonIsRight.{IsNumberFrom, LacksTables, NamesTable}
 use Rattle.club_check.specs.internal.ReasonIsRight.{AreRulesRead, undeclared_row}
 use Rattle.club_check.specs.Places.{NamesRows}
 use Rattle.club_check.specs.Versions.{HoldsRows, HasClub}
-use Rattle.club_check.proofs.StoredLemmas.{one_of, club_of_version, stands, unique_of}
+use Rattle.club_check.proofs.StoredLemmas.{club_of_version, first_alone, stands, unique_of}
 use Rattle.schema_match.specs.Shapes.{is_of_club}
 use Rattle.std.proofs.lemmas.Option.{same_Some, slice_get_within}
 use Rattle.sqlite_value.specs.declared.value.Value.TheVariants.{Int}
@@ -53,14 +54,15 @@ use Rattle.club_core.specs.Events.{Event}
 use Rattle.club_core.specs.State.{draughts, shogi}
 use Rattle.sqlite_trees.specs.Tree.{rowid}
 use Rattle.store_tables.specs.declared.names.Table.TheVariants.{Members, Events, EventRules, Challenges, Moves, Games}
-use Rattle.store_tables.specs.declared.names.Table.TheVariants.{Seen, Scores, Meta}
+use Rattle.store_tables.specs.declared.names.Table.TheVariants.{Seen, Scores, Meta, Keys, Rulings, Closings}
 use Rattle.club_rows.specs.Club.{ClubGame, both_games, ClubState, IsClub}
 use Rattle.club_rows.specs.FirstSchema.{IsClubOf, tables_at}
 use Rattle.club_rows.specs.Tables.{declares_number, member_row, event_row, rule_row, numbered_from, row_of_game}
-use Rattle.club_rows.specs.Tables.{tables_of, challenge_row, number}
+use Rattle.club_rows.specs.Tables.{tables_of, challenge_row, meta_row, number, version_of}
 use Rattle.club_rows.proofs.Proved.{rules-typed, members-typed, events-typed, moves-typed, games-typed, scores_typed}
+use Rattle.club_rows.proofs.Proved.{closings-typed, keys-typed, version-with, version-without}
 use Rattle.club_rows.proofs.Proved.{seen-typed, declares-alike, same-pos}
-use Rattle.club_changes.proofs.Proved.{challenges_typed, moved, numbered_had, numbered_has}
+use Rattle.club_check.proofs.NumberedLemmas.{challenges_typed, moved, numbered_had, numbered_has}
 use Rattle.club_audit.specs.internal.Audit.{AreEvents, AreMembers, AreRules, HasPeople}
 use Rattle.club_audit.proofs.Proved.{numbered-at, numbered-back, numbered-length}
 use Rattle.club_core.specs.LegalState.{Each}
@@ -106,8 +108,9 @@ unnamed e (inr memory) t is = cc
 
 pub meta_stored : (version : Version) (db : Database) (content : Content)
     → HoldsRows version content db → Stores (meta 0) (club_trees db) content
-meta_stored First db content k = k.tables.0
-meta_stored Current db content k = k.tables.0
+meta_stored V1 db content k = k.tables.0
+meta_stored V2 db content k = k.tables.0
+meta_stored V3 db content k = k.tables.0
 
 pub one_is_meta : (rows : List Row) (row : Row) → row ≡ get_or rows 0 row → IsOneMeta rows → IsMeta row
 one_is_meta rows row at one =
@@ -134,14 +137,41 @@ shown_one db version content slice shown old new is same tells k one =
           (ids_of (meta 0) (club_trees old.now 0) shown (λ r. refl) tells.once apart);
     }
 
+-- rows that are shown in another order, of which there is one, are these
+pub turned_one : (slice rows stored : List Row) → slice ≡ rows → IsPermutation stored rows → IsOneMeta stored
+    → IsOneMeta slice
+turned_one slice rows stored is turned one =
+    let x : Row = Int (pos 1) ∷ Int one.schema ∷ Int one.last ∷ [] in
+    let shown = subst (λ l. IsPermutation l rows) one.is turned in
+    let long : length rows ≡ 1 = length_permutation (x ∷ []) rows shown in
+    record { schema = one.schema; last = one.last; is = is ∙ only rows x long shown }
+  where
+    only : (rows : List Row) (x : Row) → length rows ≡ 1 → IsPermutation (x ∷ []) rows → rows ≡ x ∷ []
+    only [] x long shown = absurd (omega (arith, long))
+    only (y ∷ []) x long shown = elim (has_turned (y ∷ []) (x ∷ []) y (IsPermutation-sym (x ∷ []) (y ∷ []) shown) (inl refl)) [
+      | inl same ↦ ap (λ r. r ∷ []) same
+      | inr none ↦ absurd none
+    ]
+    only (y ∷ z ∷ rows) x long shown = absurd (omega (arith, long))
+
 -- ---- several tables in turn
 
--- a table of both versions, by its place
+-- what has a place among the first elements has it among more
+take_more_got : {A : Type 0} (xs : List A) (m n k : ℕ) (x : A) → m ≤ n → slice_get (take m xs) k ≡ Some x
+    → slice_get (take n xs) k ≡ Some x
+take_more_got xs zero n k x less at = cc
+take_more_got [] (suc m) n k x less at = cc
+take_more_got (y ∷ xs) (suc m) zero k x less at = absurd (omega (arith, less))
+take_more_got (y ∷ xs) (suc m) (suc n) zero x less at = at
+take_more_got (y ∷ xs) (suc m) (suc n) (suc k) x less at = take_more_got xs m n k x (omega (arith, less)) at
+
+-- a table of all versions, by its place
 pub place_in : (definition : Definition) (place : ℕ) → slice_get first_schema.tables place ≡ Some definition
     → slice_get club_schema.tables place ≡ Some definition → (version : Version)
     → slice_get (schema_of version).tables place ≡ Some definition
-place_in definition place first current First = first
-place_in definition place first current Current = current
+place_in definition place first current V1 = first
+place_in definition place first current V2 = take_more_got all_tables 8 9 place definition (omega arith) first
+place_in definition place first current V3 = take_more_got all_tables 8 12 place definition (omega arith) first
 
 -- of a table that the schemas have at this place
 pub names : (t : Table) (definition : Definition) (IsTyped : Row → Type 0) (old : State) (e : OpenFault)
@@ -215,20 +245,23 @@ meta_before version row (inr missing) same = inr missing
 -- the rules of events that were read of a database that did not change
 pub rules_unchanged : (version : Version) (events : List EventRow) (rules : List EventRuleRow) {old new : State}
     → AreRulesRead version events rules old new → IsUnchanged old new
-rules_unchanged First events rules it = it.0
-rules_unchanged Current events rules it = it.same
+rules_unchanged V1 events rules it = it.0
+rules_unchanged V2 events rules it = it.same
+rules_unchanged V3 events rules it = it.same
 
 pub rules_after : (version : Version) (events : List EventRow) (rules : List EventRuleRow) {old mid : State}
     (new : State) → IsUnchanged old mid → AreRulesRead version events rules mid new
     → AreRulesRead version events rules old new
-rules_after First events rules new same it = (stays same it.0, it.1)
-rules_after Current events rules new same it = read_after same it
+rules_after V1 events rules new same it = (stays same it.0, it.1)
+rules_after V2 events rules new same it = read_after same it
+rules_after V3 events rules new same it = read_after same it
 
 pub rules_before : (version : Version) (events : List EventRow) (rules : List EventRuleRow) (old : State)
     {mid new : State} → AreRulesRead version events rules old mid → IsUnchanged mid new
     → AreRulesRead version events rules old new
-rules_before First events rules old it same = (stays it.0 same, it.1)
-rules_before Current events rules old it same = read_before it same
+rules_before V1 events rules old it same = (stays it.0 same, it.1)
+rules_before V2 events rules old it same = read_before it same
+rules_before V3 events rules old it same = read_before it same
 
 -- what is said of rows of a database that did not change
 pub rows_blamed_before : (oldest : Version) {old mid : State} (fault : OpenFault) → IsUnchanged old mid
@@ -245,6 +278,19 @@ has_number found old new read id version content k =
     let has : Has (content 0) (meta_cells found) = subst (Has (content 0)) here.2 (stored.rows.only here.0 here.1) in
     (found.last, subst (λ n. Has (content 0) (Int n ∷ Int found.schema ∷ Int found.last ∷ [])) id has)
 
+number_of : (v w : Version) → ◌≡◌ {A = ℤ} (pos (schema_number v)) (pos (schema_number w)) → v ≡ w
+number_of V1 V1 is = refl
+number_of V2 V2 is = refl
+number_of V3 V3 is = refl
+number_of _ _ is = cc
+
+-- the number of a row is that of one version
+number_row : (v w : Version) (n last other : ℤ)
+    → Has ((Int (pos 1) ∷ Int (pos (schema_number v)) ∷ Int other ∷ []) ∷ []) (Int (pos 1) ∷ Int n ∷ Int last ∷ [])
+    → n ≡ pos (schema_number w) → v ≡ w
+number_row v w n last other (inl h) is = let row : pos (schema_number v) ≡ n = cc in number_of v w (row ∙ is)
+number_row v w n last other (inr none) is = absurd none
+
 -- a number beside the tables of another version
 pub names_foreign : (found : MetaRow) (old new : State) (version : Version)
     → IsReadAs (meta 0) 1 (meta_cells found ∷ []) old new → found.id ≡ pos 1
@@ -254,78 +300,69 @@ names_foreign found old new version read id number other = (
   refl,
   λ there content k one.
       let (last, has) = has_number found old new read id there content k in
-      other (subst (λ v. HasTablesOf v old.now.schema) (same_number there version found.schema last one.1.0
+      other (subst (λ v. HasTablesOf v old.now.schema) (number_row there version found.schema last one.1.0
       (subst (λ rows. Has rows (Int (pos 1) ∷ Int found.schema ∷ Int last ∷ [])) one.1.1 has) number) k.schema),
 )
-  where
-    same_number : (v w : Version) (n last other : ℤ)
-        → Has ((Int (pos 1) ∷ Int (pos (schema_number v)) ∷ Int other ∷ []) ∷ []) (Int (pos 1) ∷ Int n ∷ Int last ∷ [])
-        → n ≡ pos (schema_number w) → v ≡ w
-    same_number First First n last other h is = refl
-    same_number Current Current n last other h is = refl
-    same_number First Current n last other (inl h) is = cc
-    same_number Current First n last other (inl h) is = cc
-    same_number First Current n last other (inr none) is = absurd none
-    same_number Current First n last other (inr none) is = absurd none
 
 -- tables of another version than `meta` tells
 pub foreign_named : (version : Version) (row : MetaRow) (old mid : State) → IsMetaRead version row old mid
     → ¬ HasTablesOf version old.now.schema → NamesForeign old.now Foreign
 foreign_named version row old mid (inl (read, id, number)) other =
     names_foreign row old mid version read id number other
-foreign_named version row old mid (inr (last, never, none)) other = (
+foreign_named version row old mid (inr (last, never, none, shown)) other = (
   refl,
   λ there content k one.
       none there content k (record { schema = pos (schema_number there); last = one.1.0; is = one.1.1 }),
 )
 
+-- The version that `meta` tells is that of whatever the database holds, if its tables exist and can be used as those of
+-- the version.
+pub one_told : (version v : Version) (row : MetaRow) (old mid : State) (content : Content)
+    → IsMetaRead version row old mid → HasTablesOf version old.now.schema
+    → is_of_club version old.now.schema ≡ true → HoldsRows v content old.now → version ≡ v
+one_told V1 v row old mid content read has shape holds = sym (first_alone v old.now.schema has holds.schema)
+one_told V2 V1 row old mid content read has shape holds = first_alone V2 old.now.schema holds.schema has
+one_told V3 V1 row old mid content read has shape holds = first_alone V3 old.now.schema holds.schema has
+one_told V2 V2 row old mid content read has shape holds = refl
+one_told V3 V3 row old mid content read has shape holds = refl
+one_told V2 V3 row old mid content (inl (read, id, number)) has shape holds =
+    let (last, at) = has_number row old mid read id V3 content holds in
+    absurd (holds.told.0 row.schema last at number)
+one_told V2 V3 row old mid content (inr (assumed, never, none, shown)) has shape holds = elim assumed [
+  | inl third ↦ absurd (let is = third.0 in cc)
+  | inr second ↦
+      let (n, (last, is)) = holds.told.1 second.1 in
+      absurd (none V3 content holds (record { schema = n; last = last; is = is }))
+]
+one_told V3 V2 row old mid content (inl (read, id, number)) has shape holds =
+    let (n, (last, is), other) = holds.told shape in
+    let (later, at) = has_number row old mid read id V2 content holds in
+    let same : n ≡ row.schema =
+    elim (subst (λ rows. Has rows (Int (pos 1) ∷ Int row.schema ∷ Int later ∷ [])) is at) [
+      | inl one ↦ cc
+      | inr nothing ↦ absurd nothing
+    ] in
+    absurd (other (same ∙ number))
+one_told V3 V2 row old mid content (inr (assumed, never, none, shown)) has shape holds =
+    let (n, (last, is), other) = holds.told shape in
+    absurd (none V2 content holds (record { schema = n; last = last; is = is }))
+
 -- tables that do not answer as those of a club of their version
-pub shape_named : (version : Version) (db : Database) → HasTablesOf version db.schema
-    → is_of_club version db.schema ≡ false → NamesForeign db Foreign
-shape_named version db has other = (
+pub shape_named : (version : Version) (row : MetaRow) (old mid : State) → IsMetaRead version row old mid
+    → is_of_club version old.now.schema ≡ false → NamesForeign old.now Foreign
+shape_named version row old mid (inl (read, id, number)) other = (
   refl,
   λ there content k one.
-      let same = one_of there version db.schema k.schema has in
-      true≢false (sym (subst (λ v. is_of_club v db.schema ≡ true) same one.0) ∙ other),
+      let (last, has) = has_number row old mid read id there content k in
+      let same = number_row there version row.schema last one.1.0
+      (subst (λ rows. Has rows (Int (pos 1) ∷ Int row.schema ∷ Int last ∷ [])) one.1.1 has) number in
+      true≢false (sym (subst (λ v. is_of_club v old.now.schema ≡ true) same one.0) ∙ other),
 )
-
--- ---- the head
-
-pub least_number : (version : Version) → schema_number First ≤ schema_number version
-least_number First = omega arith
-least_number Current = omega arith
-
--- a number that is of no version is of none from a later one on
-no_later : (oldest : Version) (n : ℤ) → ¬ IsNumberFrom First n → ¬ IsNumberFrom oldest n
-no_later oldest n none = λ is. none (is.0, is.1, least_number is.0)
-
--- no version is later than the last
-greatest_number : (version : Version) → ¬ (schema_number Current < schema_number version)
-greatest_number First = λ less. absurd (omega (arith, less))
-greatest_number Current = λ less. absurd (omega (arith, less))
-
-pub only_last : (version : Version) → schema_number Current ≤ schema_number version → version ≡ Current
-only_last First last = absurd (omega (arith, last))
-only_last Current last = refl
-
-pub told_blamed : (oldest : Version) (db : Database) (e : OpenFault)
-    → (e ≡ Store) ⊎ ((e ≡ Memory) ⊎ NamesSchema First db e) → IsRightFault oldest db e
-told_blamed oldest db e (inl store) = inl (inl store)
-told_blamed oldest db e (inr (inl memory)) = inl (inr (inl memory))
-told_blamed oldest db e (inr (inr (n, named, none, has))) = inr (inl (n, named, no_later oldest n none, has))
-
--- a version before those that are taken is named by its number
-pub refused_named : (oldest version : Version) (row : MetaRow) (old mid : State) (e : OpenFault)
-    → IsMetaRead version row old mid → e ≡ open_fault.Schema (pos (schema_number version))
-    → schema_number version < schema_number oldest → NamesSchema oldest old.now e
-refused_named oldest version row old mid e (inl (read, id, number)) named less = (
-  pos (schema_number version),
-  named,
-  λ is. absurd (omega (arith, ints, is.1, is.2, less)),
-  subst (HasNumber old.now) number (has_number row old mid read id),
+shape_named version row old mid (inr (assumed, never, none, shown)) other = (
+  refl,
+  λ there content k one.
+      none there content k (record { schema = pos (schema_number there); last = one.1.0; is = one.1.1 }),
 )
-refused_named oldest version row old mid e (inr missing) named less =
-    absurd (greatest_number oldest (subst (λ v. schema_number v < schema_number oldest) missing.0 less))
 
 -- ---- all tables
 
@@ -403,27 +440,46 @@ club_typed s club Moves = moves-typed s club
 club_typed s club Games = games-typed s club
 club_typed s club Seen = seen-typed s club
 club_typed s club Scores = scores_typed both_games s.games
-club_typed s club Meta = record { schema = pos 2; last = pos s.last; is = refl }
+club_typed s club Keys = keys-typed s club
+club_typed s club Rulings = tt
+club_typed s club Closings = closings-typed s club
+club_typed s club Meta =
+    record { schema = pos (schema_number (version_of s)); last = pos s.last; is = refl }
 
 pub typed_at : (version : Version) (s : ClubState) → IsClub s → (t : Table) → HasTypes t (tables_at version s)
-typed_at Current s club t = club_typed s club t
-typed_at First s club EventRules = tt
-typed_at First s club Meta = record { schema = pos 1; last = pos s.last; is = refl }
-typed_at First s club t = club_typed s club t
+typed_at V2 s club t = club_typed s club t
+typed_at V3 s club t = club_typed s club t
+typed_at V1 s club EventRules = tt
+typed_at V1 s club Meta = record { schema = pos 1; last = pos s.last; is = refl }
+typed_at V1 s club t = club_typed s club t
+
+-- the row of `meta` of a legal club of this version
+pub meta_at : (version : Version) (s : ClubState) → IsClubOf version s
+    → tables_at version s 0 ≡ meta_row (schema_number version) s.last ∷ []
+meta_at V1 s own = refl
+meta_at V2 s own = ap (λ v. meta_row (schema_number v) s.last ∷ []) (version-without s own.1)
+meta_at V3 s own = ap (λ v. meta_row (schema_number v) s.last ∷ []) (version-with s own.1)
 
 -- what a row of `meta` tells
-pub one_row : (version : Version) (s : ClubState) (id n last : ℤ)
+pub one_row : (version : Version) (s : ClubState) → IsClubOf version s → (id n last : ℤ)
     → Has (tables_at version s 0) (Int id ∷ Int n ∷ Int last ∷ [])
     → (n ≡ pos (schema_number version)) × (last ≡ pos s.last)
-one_row First s id n last (inl is) = (cc, cc)
-one_row Current s id n last (inl is) = (cc, cc)
-one_row First s id n last (inr none) = absurd none
-one_row Current s id n last (inr none) = absurd none
+one_row version s own id n last has =
+    elim (subst (λ rows. Has rows (Int id ∷ Int n ∷ Int last ∷ [])) (meta_at version s own) has) [
+      | inl is ↦ (cc, cc)
+      | inr none ↦ absurd none
+    ]
 
-one_meta_row : (version : Version) (s : ClubState) → (last : ℤ)
+pub one_meta_row : (version : Version) (s : ClubState) → IsClubOf version s → (last : ℤ)
     × (tables_at version s 0 ≡ (Int (pos 1) ∷ Int (pos (schema_number version)) ∷ Int last ∷ []) ∷ [])
-one_meta_row First s = (pos s.last, refl)
-one_meta_row Current s = (pos s.last, refl)
+one_meta_row version s own = (pos s.last, meta_at version s own)
+
+-- a database of schema 3 lacks none of its tables
+no_lack : (version : Version) (db : Database) → HasTablesOf version db.schema
+    → ¬ LacksTables db (pos (schema_number version))
+no_lack V1 db has lacks = let is = lacks.0 in cc
+no_lack V2 db has lacks = let is = lacks.0 in cc
+no_lack V3 db has lacks = lacks.1 has.0
 
 -- A database with the tables of a legal club, which answer as a club's, is blamed for nothing, but for a version that
 -- is not taken.
@@ -438,10 +494,16 @@ good_at oldest version s club db holds shape fault (inl (inr (inr (t, named, wro
     absurd (wrong version (tables_at version s) holds (typed_at version s (club_of_version version s club) t))
 good_at oldest version s club db holds shape fault (inr (inl (n, named, other, has))) =
     let (last, at) = has version (tables_at version s) holds in
-    let is : n ≡ pos (schema_number version) = (one_row version s (pos 1) n last at).0 in
-    inr (inr (named ∙ ap Schema is, subst (λ k. ¬ IsNumberFrom oldest k) is other))
+    let is : n ≡ pos (schema_number version) = (one_row version s club (pos 1) n last at).0 in
+    inr (inr (
+      named ∙ ap Schema is,
+      elim (subst (λ k. (¬ IsNumberFrom oldest k) ⊎ LacksTables db k) is other) [
+        | inl none ↦ none
+        | inr lacks ↦ absurd (no_lack version db holds.schema lacks)
+      ],
+    ))
 good_at oldest version s club db holds shape fault (inr (inr (inl (named, none)))) =
-    absurd (none version (tables_at version s) holds (shape, one_meta_row version s))
+    absurd (none version (tables_at version s) holds (shape, one_meta_row version s club))
 good_at oldest version s club db holds shape _ (inr (inr (inr (t, named, none)))) = absurd (none version s club holds)
 
 -- of a version that is taken it is blamed for nothing
@@ -506,7 +568,7 @@ members_of s club rows are = record {
   legal = club.members;
   count = club.member_count;
   names = club.member_names;
-  keys = club.member_keys;
+  keys = λ i j m n one two same. (club.member_keys i j 0 0 m n m.key one two refl (ap Some (sym same))).0;
 }
 
 pub events_of : (s : ClubState) → IsClub s → (rows : List EventRow) → map event_cells rows ≡ tables_of both_games s 4

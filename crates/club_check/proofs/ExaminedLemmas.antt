@@ -42,7 +42,7 @@ use Rattle.club_check.specs.declared.fault.OpenFault.TheVariants.{Damaged}
 use Rattle.club_check.specs.Versions.{HasClub}
 use Rattle.club_check.specs.internal.RightMoves.{HasMovesOf, beyond, HaveSeenOf, id_at, without}
 use Rattle.club_check.proofs.StoredLemmas.{club_of_version}
-use Rattle.club_changes.proofs.Proved.{moves_had, take_next}
+use Rattle.club_check.proofs.NumberedLemmas.{moves_had, take_next}
 use Rattle.club_check.proofs.ClubLemmas.{before, stays, read_after, events_of, members_of}
 use Rattle.club_check.proofs.FirstWrong.{rows_at}
 use Rattle.club_check.proofs.FirstWrong.{shown_held}
@@ -516,6 +516,7 @@ pub examined_before : (rows : Rows) {old mid new : State} → IsUnchanged old mi
 examined_before rows {old} {mid} {new} same all = record {
   moment = all.moment;
   last = all.last;
+  closed_by = all.closed_by;
   challenges = all.challenges;
   games = all.games;
   play = record {

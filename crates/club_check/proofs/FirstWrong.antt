@@ -1,6 +1,6 @@
 -- Of the tables of a file the first wrong one is named.
-use Rattle.std.proofs.Common.{◌≡◌, ◌⊎◌, ℕ, List, [], ◌∷◌, inl, inr, refl, subst, sym, ap, ◌∙◌, Some, map}
-use Rattle.std.proofs.Common.{false, suc, ◌<◌, length, arith, ◌≤◌, Option, None}
+use Rattle.std.proofs.Common.{◌≡◌, ◌⊎◌, ℕ, List, [], ◌∷◌, inl, inr, refl, subst, sym, ◌∙◌, Some, map}
+use Rattle.std.proofs.Common.{suc, ◌<◌, length, arith, ◌≤◌, Option, None}
 use Rattle.std.specs.List.{AllByRecursion}
 use Rattle.sqlite.specs.Order.{Row}
 use Rattle.sqlite.specs.Effect.{Database}
@@ -17,49 +17,46 @@ use Rattle.store_tables.specs.Cells.{IsSeen}
 use Rattle.sqlite_rules.specs.Lists.{Has}
 use Rattle.store_tables.specs.Content.{Keeps, AreApart, cells}
 use Rattle.store_tables.specs.Contents.{Content, Stores}
-use Rattle.std.specs.Prelude.{pos, slice_get}
+use Rattle.std.specs.Prelude.{slice_get}
 use Rattle.store_tables.specs.declared.rows.Rows.{Rows}
-use Rattle.store_tables.specs.Tables.{club_schema, schema_of, members, events, games}
-use Rattle.store_tables.specs.internal.Tables.{first_schema}
-use Rattle.store_tables.specs.Tables.{event_rules, challenges, moves, seen}
+use Rattle.store_tables.specs.Tables.{schema_of, members, events}
+use Rattle.store_tables.specs.internal.Tables.{club_schema, first_schema}
+use Rattle.store_tables.specs.Tables.{IsServed, closings, event_rules, challenges, keys, moves, rulings, seen}
 use Rattle.store_tables.specs.declared.rows.EventRow.{EventRow}
 use Rattle.store_tables.specs.declared.rows.EventRuleRow.{EventRuleRow}
 use Rattle.store_tables.specs.declared.names.Version.{Version}
-use Rattle.store_tables.specs.declared.names.Version.TheVariants.{First, Current}
+use Rattle.store_tables.specs.declared.names.Version.TheVariants.{V1, V2, V3}
 use Rattle.store_tables.specs.declared.names.Table.{Table}
 use Rattle.club_check.specs.declared.fault.OpenFault.{OpenFault}
 use Rattle.store_sql.specs.internal.Read.{IsReadAs}
-use Rattle.club_check.specs.internal.Faults.{told}
 use Rattle.club_check.specs.declared.fault.OpenFault.TheVariants.{Damaged}
 use Rattle.club_check.specs.ReasonIsRight.{HasTypes}
 use Rattle.club_check.specs.internal.ReasonIsRight.{ReasonIsRight}
 use Rattle.club_check.specs.ReasonIsRight.{HoldsOnly}
-use Rattle.club_check.specs.internal.ReasonIsRight.{AreRulesRead, undeclared_row}
+use Rattle.club_check.specs.internal.ReasonIsRight.{AreRulesRead}
 use Rattle.club_check.specs.ReasonIsRight.{HoldsNone}
 use Rattle.club_check.specs.Places.{NamesRows}
 use Rattle.club_check.specs.Versions.{HoldsRows}
 use Rattle.club_check.specs.internal.Versions.{HasEvents}
-use Rattle.club_check.proofs.StoredLemmas.{one_of, club_of_version}
+use Rattle.club_check.proofs.StoredLemmas.{club_of_version}
 use Rattle.std.proofs.lemmas.Option.{same_Some}
 use Rattle.club_core.specs.Events.{Event}
 use Rattle.store_tables.specs.declared.names.Table.TheVariants.{Members, Events, EventRules, Challenges, Moves, Games}
-use Rattle.store_tables.specs.declared.names.Table.TheVariants.{Seen, Scores, Meta}
+use Rattle.store_tables.specs.declared.names.Table.TheVariants.{Seen, Scores, Meta, Keys, Rulings, Closings}
 use Rattle.club_rows.specs.Club.{both_games, ClubState, IsClub}
 use Rattle.club_rows.specs.FirstSchema.{IsClubOf, tables_at}
-use Rattle.club_rows.specs.Tables.{rule_row, numbered_from}
 use Rattle.club_rows.specs.Tables.{tables_of, challenge_row}
 use Rattle.club_rows.proofs.Proved.{seen-typed}
-use Rattle.club_changes.proofs.Proved.{challenges_typed, moved}
+use Rattle.club_check.proofs.NumberedLemmas.{challenges_typed, moved}
 use Rattle.club_audit.specs.internal.Audit.{AreEvents, AreMembers, AreRules, HasPeople, AreRulesOf}
-use Rattle.club_audit.proofs.Proved.{rules-counted, ruled-of}
-use Rattle.club_core.specs.LegalState.{Each}
+use Rattle.club_audit.proofs.Proved.{rules-counted}
 use Rattle.store_tables.specs.declared.rows.MemberRow.{MemberRow}
 use Rattle.store_tables.specs.Changes.{HaveSame}
 use Rattle.store_tables.specs.declared.rows.GameTableRow.{GameTableRow}
 use Rattle.club_core.specs.declared.challenges.Challenge.{Challenge}
 use Rattle.club_core.specs.declared.seats.Pairing.{Pairing}
 use Rattle.club_audit.specs.internal.ChallengeAudit.{AreChallenges, IsGameAmong}
-use Rattle.club_check.specs.RightTables.{HasGame, HaveChallenges, AreOfClub, HasTable}
+use Rattle.club_check.specs.RightTables.{HasGame, HaveChallenges, HaveNoRulings, AreOfClub, HasTable}
 use Rattle.club_check.specs.RightTables.{IsFirstIn, IsRight}
 use Rattle.club_check.specs.internal.RightTables.{IsLater, IsOfPlay, IsUnheld, IsUntyped, IsWrongOfPlay}
 use Rattle.club_check.specs.RightTables.{NamesFirstDamaged, rows_in}
@@ -74,10 +71,10 @@ use Rattle.club_check.specs.internal.Examined.{moves_in, seen_in}
 use Rattle.club_check.specs.RightMoves.{HaveMoves}
 use Rattle.club_check.specs.internal.RightMoves.{HaveMovesOf, SeenWrong}
 use Rattle.club_check.proofs.RowLemmas.{shown_same}
-use Rattle.club_check.proofs.ClubLemmas.{before, challenges_once, challenges_right, event_count, events_kept}
-use Rattle.club_check.proofs.ClubLemmas.{events_of, keeps_same, member_count, members_kept, members_of, names}
-use Rattle.club_check.proofs.ClubLemmas.{none_declared, place_in, right_challenges, rules_kept, typed_at}
-use Rattle.club_check.proofs.ClubLemmas.{undeclared_are, undeclared_rules}
+use Rattle.club_check.proofs.ClubLemmas.{before, challenges_once, challenges_right, events_kept}
+use Rattle.club_check.proofs.ClubLemmas.{events_of, keeps_same, members_kept, members_of}
+use Rattle.club_check.proofs.ClubLemmas.{place_in, right_challenges, rules_kept, typed_at}
+use Rattle.club_check.proofs.ClubLemmas.{undeclared_rules}
 
 -- ---- tables that a database holds
 
@@ -89,15 +86,31 @@ stores_of definition place first current {version} {db} {content} holds =
     all_has (λ d. Stores d (club_trees db) content) (schema_of version).tables definition holds.tables
     (has_got (schema_of version).tables place definition (place_in definition place first current version))
 
-pub rules_in : (db : Database) (content : Content) → HoldsRows Current content db
-    → Stores (event_rules 16) (club_trees db) content
-rules_in db content holds = holds.tables.1.1.1.1.1.1.1.1.0
+pub rules_in : (version : Version) (db : Database) (content : Content) → HasTable EventRules version
+    → HoldsRows version content db → Stores (event_rules 16) (club_trees db) content
+rules_in V1 db content there holds = absurd there
+rules_in V2 db content there holds = holds.tables.1.1.1.1.1.1.1.1.0
+rules_in V3 db content there holds = holds.tables.1.1.1.1.1.1.1.1.0
 
--- the rules of events, where the tables are those of the last version
+-- the rules of events, where the tables are those of a served version
 pub rules_at : (version : Version) {db : Database} {content : Content} → HoldsRows version content db
-    → HasTablesOf Current db.schema → HasTable EventRules version × Stores (event_rules 16) (club_trees db) content
-rules_at First {db} holds has = absurd (versions_apart db.schema holds.schema has)
-rules_at Current {db} {content} holds has = (tt, rules_in db content holds)
+    → (w : Version) → IsServed w → HasTablesOf w db.schema
+    → HasTable EventRules version × Stores (event_rules 16) (club_trees db) content
+rules_at V1 {db} holds w served has = absurd (versions_apart db.schema w served holds.schema has.0)
+rules_at V2 {db} {content} holds w served has = (tt, rules_in V2 db content tt holds)
+rules_at V3 {db} {content} holds w served has = (tt, rules_in V3 db content tt holds)
+
+-- the tables of schema 3
+pub keys_in : (db : Database) (content : Content) → HoldsRows V3 content db → Stores (keys 17) (club_trees db) content
+keys_in db content holds = holds.tables.1.1.1.1.1.1.1.1.1.0
+
+pub rulings_in : (db : Database) (content : Content) → HoldsRows V3 content db
+    → Stores (rulings 20) (club_trees db) content
+rulings_in db content holds = holds.tables.1.1.1.1.1.1.1.1.1.1.0
+
+pub closings_in : (db : Database) (content : Content) → HoldsRows V3 content db
+    → Stores (closings 22) (club_trees db) content
+closings_in db content holds = holds.tables.1.1.1.1.1.1.1.1.1.1.1.0
 
 -- what a table is kept by is what it has
 pub kept_same : (table : Definition) (db : Database) (one other : List Row) → Keeps table (club_trees db) one
@@ -132,13 +145,17 @@ shown_held table place first current {db} {content} holds =
 
 -- ---- the rows of a club
 
--- the tables of both versions but `meta`
+-- the tables of all versions but `meta`
 pub rows_at : (version : Version) (s : ClubState) (u : Table) → order u ≤ order Scores → HasTable u version
     → rows_in u (tables_at version s) ≡ rows_in u (tables_of both_games s)
-rows_at Current s u low there = refl
-rows_at First s EventRules low there = absurd there
-rows_at First s Meta low there = absurd (omega (arith, low))
-rows_at First s u low there = refl
+rows_at V2 s u low there = refl
+rows_at V3 s u low there = refl
+rows_at V1 s EventRules low there = absurd there
+rows_at V1 s Keys low there = absurd there
+rows_at V1 s Rulings low there = absurd there
+rows_at V1 s Closings low there = absurd there
+rows_at V1 s Meta low there = absurd (omega (arith, low))
+rows_at V1 s u low there = refl
 
 -- the rows that a club has
 pub club_rows : {version : Version} {t : Table} {content : Content} (club : AreOfClub version t content) (u : Table)
@@ -173,7 +190,7 @@ types_same P (x ∷ xs) ys there all = (
 )
 
 -- the rows of a table that a club has have the types of its columns
-club_types : (t : Table) (P : Row → Type 0) {version : Version} {content : Content} (club : AreOfClub version t content)
+pub club_types : (t : Table) (P : Row → Type 0) {version : Version} {content : Content} (club : AreOfClub version t content)
     → HasTable t version
     → (HasTypes t (tables_at version club.state) → AllByRecursion P (rows_in t (tables_at version club.state)))
     → AllByRecursion P (rows_in t content)
@@ -215,11 +232,11 @@ pub event_types_wrong : (old : State) (e : OpenFault) → ReasonIsRight Events (
 event_types_wrong old e = types_none Events (events 4) IsEvent (IsRight Events) old e (λ version content holds club.
     (stores_of (events 4) 2 refl refl holds, club_types Events IsEvent club tt (λ all. all)))
 
-pub rule_types_wrong : (old : State) (e : OpenFault) → HasTablesOf Current old.now.schema
+pub rule_types_wrong : (old : State) (e : OpenFault) (w : Version) → IsServed w → HasTablesOf w old.now.schema
     → ReasonIsRight EventRules (event_rules 16) IsEventRule old e → NamesWrong EventRules old.now e
-rule_types_wrong old e has =
+rule_types_wrong old e w served has =
     types_none EventRules (event_rules 16) IsEventRule (IsRight EventRules) old e (λ version content holds club.
-    let (there, stores) = rules_at version holds has in
+    let (there, stores) = rules_at version holds w served has in
     (stores, club_types EventRules IsEventRule club there (λ all. all)))
 
 pub challenge_types_wrong : (old : State) (e : OpenFault) → ReasonIsRight Challenges (challenges 6) IsChallenge old e
@@ -268,12 +285,24 @@ pub rules_told : (version : Version) {t : Table} {content : Content} (old new : 
     → (events_rows : List EventRow) (rules : List EventRuleRow)
     → map event_cells events_rows ≡ tables_of both_games club.state 4 → AreRulesRead version events_rows rules old new
     → AreRulesOf club.state.events rules
-rules_told First old new holds club upto events_rows rules are read =
+rules_told V1 old new holds club upto events_rows rules are read =
     read.1 ∙ undeclared_rules 1 club.state.events events_rows are club.legal.undeclared
-rules_told Current {content} old new holds club upto events_rows rules are read =
+rules_told V2 {content} old new holds club upto events_rows rules are read =
     rules_kept club.state (keeps_same (event_rules 16) (club_trees old.now) (content 16)
     (tables_of both_games club.state 16) (club_rows club EventRules (omega arith) upto tt)
-    (rules_in old.now content holds).rows) read
+    (rules_in V2 old.now content tt holds).rows) read
+rules_told V3 {content} old new holds club upto events_rows rules are read =
+    rules_kept club.state (keeps_same (event_rules 16) (club_trees old.now) (content 16)
+    (tables_of both_games club.state 16) (club_rows club EventRules (omega arith) upto tt)
+    (rules_in V3 old.now content tt holds).rows) read
+
+-- rows of rules that were read where the database has a later version than schema 1 were read so in each such version
+pub rules_read_as : (v w : Version) → IsServed w → HasTable EventRules v → (events_rows : List EventRow)
+    (rules : List EventRuleRow) (old new : State) → IsReadAs (event_rules 16) 1 (map event_rule_cells rules) old new
+    → AreRulesRead v events_rows rules old new
+rules_read_as V1 w served there events_rows rules old new read = absurd there
+rules_read_as V2 w served there events_rows rules old new read = read
+rules_read_as V3 w served there events_rows rules old new read = read
 
 -- members that are those of no legal club are no club's, and so are events
 pub members_none : (rows : List MemberRow) (old new : State) → IsReadAs (members 1) 1 (map member_cells rows) old new
@@ -288,59 +317,28 @@ events_none rows old new read none version content holds club =
 
 -- and rules of events that are those of no club with these rows of events
 pub rules_none : (events_rows : List EventRow) (rows : List EventRuleRow) (old new : State)
-    → HasTablesOf Current old.now.schema → IsReadAs (event_rules 16) 1 (map event_rule_cells rows) old new
-    → ¬ AreRules rows (length events_rows) → (version : Version) (content : Content)
-    → HoldsRows version content old.now → (club : AreOfClub version EventRules content)
+    → (w : Version) → IsServed w → HasTablesOf w old.now.schema
+    → IsReadAs (event_rules 16) 1 (map event_rule_cells rows) old new → ¬ AreRules rows (length events_rows)
+    → (version : Version) (content : Content) → HoldsRows version content old.now
+    → (club : AreOfClub version EventRules content)
     → ¬ (map event_cells events_rows ≡ tables_of both_games club.state 4)
-rules_none events_rows rows old new has read none version content holds club are =
-    let same : Current ≡ version = one_of Current version old.now.schema has holds.schema in
-    let told = subst (λ v. AreRulesRead v events_rows rows old new) same read in
+rules_none events_rows rows old new w served has read none version content holds club are =
+    let (there, stores) = rules_at version holds w served has in
+    let told = rules_read_as version w served there events_rows rows old new read in
     none (rules-counted club.state.events events_rows rows (events_of club.state (legal_of club) events_rows are)
     (rules_told version old new holds club (omega arith) events_rows rows are told))
 
--- ---- clubs with people alone
-
-abbrev club_with : List Member → List Event → ClubState
-club_with ms es = record { last = 0; members = ms; events = es; games = []; challenges = [] }
-
-is_club : (ms : List Member) (es : List Event) (member_rows : List MemberRow) (event_rows : List EventRow)
-    → AreMembers ms member_rows → AreEvents es event_rows → IsClub (club_with ms es)
-is_club ms es member_rows event_rows are_ms are_es = record {
-  last = omega arith;
-  members = are_ms.legal;
-  member_count = are_ms.count;
-  member_names = are_ms.names;
-  member_keys = are_ms.keys;
-  events = are_es.legal;
-  event_count = are_es.count;
-  event_names = are_es.names;
-  games = λ n x at. cc;
-  game_count = omega arith;
-  game_keys = λ i j x y b one two first second. cc;
-  challenges = λ n x at. cc;
-  challenge_numbers = λ i j x y one two alike. cc;
-}
-
-no_events : AreEvents [] []
-no_events = record {
-  rows_are = refl;
-  legal = λ n x at. cc;
-  count = omega arith;
-  names = λ i j x y one two alike. cc;
-}
-
-pub of_either : (version : Version) (s : ClubState) → IsClub s
-    → (version ≡ First → Each (λ e. e.terms.declares ≡ false) s.events) → IsClubOf version s
-of_either First s club none = record { club = club; undeclared = none refl }
-of_either Current s club none = club
+-- ---- which tables are right
 
 -- what holds of the tables of people up to a place
-upto : (n : ℕ) (P : Table → Type 0) → P Members → (1 ≤ n → P Events) → (2 ≤ n → P EventRules) → n ≤ 2 → (u : Table)
-    → order u ≤ n → P u
-upto n P m e r few Members low = m
-upto n P m e r few Events low = e low
-upto n P m e r few EventRules low = r low
-upto n P m e r few _ low = absurd (omega (arith, few, low))
+pub upto : (n : ℕ) (P : Table → Type 0) → P Members → (1 ≤ n → P Keys) → (2 ≤ n → P Events) → (3 ≤ n → P EventRules)
+    → (4 ≤ n → P Closings) → n ≤ 4 → (u : Table) → order u ≤ n → P u
+upto n P m k e r c few Members low = m
+upto n P m k e r c few Keys low = k low
+upto n P m k e r c few Events low = e low
+upto n P m k e r c few EventRules low = r low
+upto n P m k e r c few Closings low = c low
+upto n P m k e r c few _ low = absurd (omega (arith, few, low))
 
 -- a club with the rows of a table has those of the tables before it
 sooner : (version : Version) (t u : Table) (content : Content) → order u ≤ order t → AreOfClub version t content
@@ -351,117 +349,39 @@ sooner version t u content low club = record {
   same = λ v there lower. club.same v there (omega (arith, low, lower));
 }
 
-pub people_upto : (version : Version) (t : Table) (content : Content) → order t ≤ order EventRules
+pub people_upto : (version : Version) (t : Table) (content : Content) → order t ≤ order Closings
     → AreOfClub version t content
     → (u : Table) → order u ≤ order t → IsRight u version content
 people_upto version t content few club =
     upto (order t) (λ u. IsRight u version content) (sooner version t Members content (omega arith) club)
-    (λ one. sooner version t Events content one club) (λ two. sooner version t EventRules content two club) few
+    (λ one. sooner version t Keys content one club) (λ two. sooner version t Events content two club)
+    (λ three. sooner version t EventRules content three club) (λ four. sooner version t Closings content four club) few
 
 -- what is right of the tables up to the games
-pub right_upto : (version : Version) (content : Content) → AreOfClub version EventRules content → (u : Table)
-    → order u ≤ order Games → (order EventRules < order u → HaveChallenges content)
+pub right_upto : (version : Version) (content : Content) → AreOfClub version Closings content → (u : Table)
+    → order u ≤ order Games → (order Closings < order u → HaveChallenges content)
     → (order Challenges < order u → HaveMoves version content)
-    → (order Moves < order u → AreOfClub version Games content) → IsRight u version content
-right_upto version content club Members low cs ms gs = sooner version EventRules Members content (omega arith) club
-right_upto version content club Events low cs ms gs = sooner version EventRules Events content (omega arith) club
-right_upto version content club EventRules low cs ms gs = club
-right_upto version content club Challenges low cs ms gs = cs (omega arith)
-right_upto version content club Moves low cs ms gs = ms (omega arith)
-right_upto version content club Games low cs ms gs = gs (omega arith)
-right_upto version content club _ low cs ms gs = absurd (omega (arith, low))
+    → (order Moves < order u → HaveNoRulings version content)
+    → (order Rulings < order u → AreOfClub version Games content) → IsRight u version content
+right_upto version content club Members low cs ms rs gs = sooner version Closings Members content (omega arith) club
+right_upto version content club Keys low cs ms rs gs = sooner version Closings Keys content (omega arith) club
+right_upto version content club Events low cs ms rs gs = sooner version Closings Events content (omega arith) club
+right_upto version content club EventRules low cs ms rs gs =
+    sooner version Closings EventRules content (omega arith) club
+right_upto version content club Closings low cs ms rs gs = club
+right_upto version content club Challenges low cs ms rs gs = cs (omega arith)
+right_upto version content club Moves low cs ms rs gs = ms (omega arith)
+right_upto version content club Rulings low cs ms rs gs = rs (omega arith)
+right_upto version content club Games low cs ms rs gs = gs (omega arith)
+right_upto version content club _ low cs ms rs gs = absurd (omega (arith, low))
 
 pub all_upto : (version : Version) (content : Content) (top : Table) → AreOfClub version top content
-    → HaveChallenges content → HaveMoves version content → (u : Table) → order u ≤ order top
-    → IsRight u version content
-all_upto version content top club have play Challenges low = have
-all_upto version content top club have play Moves low = play
-all_upto version content top club have play u low = sooner version top u content low club
-
--- ---- rows of members and events that a database has
-
-abbrev undeclared_rows : List EventRow → List EventRuleRow
-undeclared_rows [] = []
-undeclared_rows (e ∷ es) = record { event = e.id; declares = pos 0 } ∷ undeclared_rows es
-
-undeclared_shown : (es : List EventRow) → map event_rule_cells (undeclared_rows es) ≡ map undeclared_row es
-undeclared_shown [] = refl
-undeclared_shown (e ∷ es) = ap (λ l. undeclared_row e ∷ l) (undeclared_shown es)
-
--- what was read of people makes a club that has their rows
-of_people : {version : Version} {content : Content} {db : Database} → HoldsRows version content db → (ms : List Member)
-    (member_rows : List MemberRow) → AreMembers ms member_rows
-    → Keeps (members 1) (club_trees db) (map member_cells member_rows) → (es : List Event) (event_rows : List EventRow)
-    → AreEvents es event_rows → (version ≡ First → Each (λ e. e.terms.declares ≡ false) es) → (t : Table)
-    → order t ≤ order EventRules
-    → (1 ≤ order t → Keeps (events 4) (club_trees db) (map event_cells event_rows))
-    → (2 ≤ order t → HasTable EventRules version → HaveSame (content 16) (numbered_from rule_row 1 es))
-    → AreOfClub version t content
-of_people {version} {content} holds ms member_rows are_ms kept_ms es event_rows are_es undeclared t few kept_es rules =
-    let s = club_with ms es in
-    record {
-      state = s;
-      legal = of_either version s (is_club ms es member_rows event_rows are_ms are_es) undeclared;
-      same = λ u there low.
-          subst (HaveSame (rows_in u content)) (sym (rows_at version s u (omega (arith, few, low)) there))
-          (upto (order t) (λ u. HasTable u version → HaveSame (rows_in u content) (rows_in u (tables_of both_games s)))
-          (λ any. subst (HaveSame (content 1)) are_ms.rows_are (held_same (members 1) 1 refl refl holds kept_ms))
-          (λ one any. subst (HaveSame (content 4)) are_es.rows_are
-          (held_same (events 4) 2 refl refl holds (kept_es one))) rules few u low there);
-    }
-
-module _ (version : Version) (content : Content) (db : Database) (holds : HoldsRows version content db)
-    (ms : List Member) (member_rows : List MemberRow) (are_ms : AreMembers ms member_rows)
-    (kept_ms : Keeps (members 1) (club_trees db) (map member_cells member_rows)) where
-  pub members_right : AreOfClub version Members content
-  members_right = of_people holds ms member_rows are_ms kept_ms [] [] no_events (λ is n x at. cc) Members (omega arith)
-      (λ one. absurd (omega (arith, one))) (λ two. absurd (omega (arith, two)))
-
-  pub events_right : (event_rows : List EventRow) → Keeps (events 4) (club_trees db) (map event_cells event_rows)
-      → (es : List Event) → AreEvents es event_rows → AreOfClub version Events content
-  events_right event_rows kept_es es are =
-      let rules = undeclared_rows event_rows in
-      let shown = undeclared_shown event_rows in
-      let made = ruled-of es event_rows rules are (undeclared_are es event_rows rules are shown) in
-      of_people holds ms member_rows are_ms kept_ms made.ruled event_rows made.events_are
-      (λ is. none_declared 1 made.ruled event_rows (sym shown ∙ made.rules_are)) Events (omega arith)
-      (λ one. kept_es) (λ two. absurd (omega (arith, two)))
-
--- rows of rules that were read
-pub none_said : (version : Version) (event_rows : List EventRow) (rule_rows : List EventRuleRow) (old new : State)
-    → AreRulesRead version event_rows rule_rows old new → version ≡ First
-    → map event_rule_cells rule_rows ≡ map undeclared_row event_rows
-none_said First event_rows rule_rows old new read is = read.1
-none_said Current event_rows rule_rows old new read is = cc
-
-pub rules_same : (version : Version) {content : Content} (old new : State) → HasTable EventRules version
-    → HoldsRows version content old.now → (event_rows : List EventRow) (rule_rows : List EventRuleRow)
-    → AreRulesRead version event_rows rule_rows old new → (es : List Event) → AreRulesOf es rule_rows
-    → HaveSame (content 16) (numbered_from rule_row 1 es)
-rules_same First old new there holds event_rows rule_rows read es are = absurd there
-rules_same Current {content} old new there holds event_rows rule_rows read es are =
-    subst (HaveSame (content 16)) are
-    (kept_same (event_rules 16) old.now (content 16) (map event_rule_cells rule_rows)
-    (rules_in old.now content holds).rows read.keeps)
-
--- what was read tells that the people are right in whatever content the database may hold
-pub people_read : (version : Version) (member_rows : List MemberRow) (event_rows : List EventRow)
-    (rule_rows : List EventRuleRow) (old new : State) → HasTablesOf version old.now.schema
-    → IsReadAs (members 1) 1 (map member_cells member_rows) old new
-    → IsReadAs (events 4) 1 (map event_cells event_rows) old new
-    → AreRulesRead version event_rows rule_rows old new → (ms : List Member) → AreMembers ms member_rows
-    → (es : List Event) → AreEvents es event_rows → AreRules rule_rows (length event_rows)
-    → HoldsOnly old.now (λ v content. AreOfClub v EventRules content)
-people_read version member_rows event_rows rule_rows old new schema read_ms read_es read_rules ms are_ms es are_es
-    are_rules v content holds =
-    let same : version ≡ v = one_of version v old.now.schema schema holds.schema in
-    let told = subst (λ w. AreRulesRead w event_rows rule_rows old new) same read_rules in
-    let made = ruled-of es event_rows rule_rows are_es are_rules in
-    of_people holds ms member_rows are_ms read_ms.keeps made.ruled event_rows made.events_are
-    (λ is. none_declared 1 made.ruled event_rows
-    (sym (none_said v event_rows rule_rows old new told is) ∙ made.rules_are)) EventRules (omega arith)
-    (λ one. read_es.keeps)
-    (λ two there. rules_same v old new there holds event_rows rule_rows told made.ruled made.rules_are)
+    → HaveChallenges content → HaveMoves version content → HaveNoRulings version content → (u : Table)
+    → order u ≤ order top → IsRight u version content
+all_upto version content top club have play none Challenges low = have
+all_upto version content top club have play none Moves low = play
+all_upto version content top club have play none Rulings low = none
+all_upto version content top club have play none u low = sooner version top u content low club
 
 -- ---- what is named
 
@@ -475,43 +395,56 @@ first_wrong table db e wrong right t is version content holds =
     (record { before = right version content holds; named = none version content holds })
 
 -- of the tables of people and of challenges, where those of people before it are right
-pub after_people : (last table : Table) → order last ≤ order EventRules → order table ≡ suc (order last)
+pub after_people : (last table : Table) → order last ≤ order Closings → order table ≡ suc (order last)
     → (db : Database) (e : OpenFault) → NamesWrong table db e
     → HoldsOnly db (λ version content. AreOfClub version last content) → NamesFirstDamaged db e
 after_people last table few next db e wrong right = first_wrong table db e wrong (λ version content holds u low.
     people_upto version last content few (right version content holds) u (omega (arith, low, next)))
 
--- one that names the games for their types, where the challenges and the moves are right by what is known of the games
+-- one that names the games for their types, where the challenges and the moves are right by what is known of the games,
+-- and there are no rulings
 pub first_games : (db : Database) → HoldsNone db (λ version content. HasTypes Games content)
-    → HoldsOnly db (λ version content. AreOfClub version EventRules content)
-    → HoldsOnly db (λ version content. HaveChallenges content) → HoldsOnly db HaveMoves
+    → HoldsOnly db (λ version content. AreOfClub version Closings content)
+    → HoldsOnly db (λ version content. HaveChallenges content) → HoldsOnly db HaveMoves → HoldsOnly db HaveNoRulings
     → NamesFirstDamaged db (Damaged Games)
-first_games db none right have play t is version content holds =
+first_games db none right have play unruled t is version content holds =
     let absent = none version content holds in
     subst (IsFirstIn version content) (damaged_same Games t is) (record {
       before = λ u low. right_upto version content (right version content holds) u (omega (arith, low))
           (λ later. have version content holds) (λ later. play version content holds)
-          (λ later. absurd (omega (arith, low, later)));
+          (λ later. unruled version content holds) (λ later. absurd (omega (arith, low, later)));
       named = λ club. absent (club_types Games IsGame club tt (λ all. all));
     })
 
+-- one that names the rulings, where the challenges and the moves are right
+pub first_rulings : (db : Database) → HoldsOnly db (λ version content. AreOfClub version Closings content)
+    → HoldsOnly db (λ version content. HaveChallenges content) → HoldsOnly db HaveMoves → HoldsNone db HaveNoRulings
+    → NamesFirstDamaged db (Damaged Rulings)
+first_rulings db right have play ruled t is version content holds =
+    subst (IsFirstIn version content) (damaged_same Rulings t is) (record {
+      before = λ u low. right_upto version content (right version content holds) u (omega (arith, low))
+          (λ later. have version content holds) (λ later. play version content holds)
+          (λ later. absurd (omega (arith, low, later))) (λ later. absurd (omega (arith, low, later)));
+      named = ruled version content holds;
+    })
+
 -- one that names the moves by the games that were read
-pub first_moves : (db : Database) → HoldsOnly db (λ version content. AreOfClub version EventRules content)
+pub first_moves : (db : Database) → HoldsOnly db (λ version content. AreOfClub version Closings content)
     → HoldsOnly db (λ version content. HaveChallenges content) → HoldsNone db HaveMoves → NamesFirstDamaged db (Damaged Moves)
 first_moves db right have wrong t is version content holds =
     subst (IsFirstIn version content) (damaged_same Moves t is) (record {
       before = λ u low. right_upto version content (right version content holds) u (omega (arith, low))
           (λ later. have version content holds) (λ later. absurd (omega (arith, low, later)))
-          (λ later. absurd (omega (arith, low, later)));
+          (λ later. absurd (omega (arith, low, later))) (λ later. absurd (omega (arith, low, later)));
       named = wrong version content holds;
     })
 
 -- one that names the challenges for what is known of the games
 pub first_known : (db : Database) (rows : Rows) → ((cs : List Challenge) → ¬ AreChallenges cs rows)
-    → HoldsOnly db (λ version content. AreOfClub version EventRules content)
+    → HoldsOnly db (λ version content. AreOfClub version Closings content)
     → HoldsOnly db (λ version content. HaveChallenges content → (cs : List Challenge) × AreChallenges cs rows)
     → NamesFirstDamaged db (Damaged Challenges)
-first_known db rows none right pass = after_people EventRules Challenges (omega arith) refl db (Damaged Challenges)
+first_known db rows none right pass = after_people Closings Challenges (omega arith) refl db (Damaged Challenges)
     (named_wrong Challenges db (λ version content holds have.
     let (cs, are) = pass version content holds have in none cs are))
     right
@@ -532,7 +465,7 @@ moves_types_wrong rows old e blames t is =
     ))
     blames t is in
     subst (IsWrongOfPlay rows old.now) (sym named) (record {
-      play = (omega arith, omega arith);
+      play = (omega arith, omega arith, λ is. cc);
       moves = λ here. none;
       games = λ here. absurd cc;
       seen = λ here. absurd cc;
@@ -548,7 +481,7 @@ seen_torn_wrong rows old e blames torn t is =
     let unheld : IsUnheld old.now =
     λ version content holds any. torn t is (stores_of (seen 12) 6 refl refl holds).apart in
     subst (IsWrongOfPlay rows old.now) (sym named) (record {
-      play = (omega arith, omega arith);
+      play = (omega arith, omega arith, λ is. cc);
       moves = λ here. absurd cc;
       games = λ here. absurd cc;
       seen = λ here version content holds have. unheld version content holds tt;
@@ -566,9 +499,9 @@ untyped_wrong rows old untyped version content holds have =
 -- of the tables that the rows of a game may show to be wrong none is one up to the challenges
 game_later : (s : ClubState) (rows : Rows) (place : ℕ) (game : GameTableRow) (ms : List MoveRow) (ss : List SeenRow)
     (last : Option ℕ) (t : Table) → ¬ IsRightAt s rows place game ms ss last t → IsOfPlay t ⊎ (t ≡ Meta)
-game_later s rows place game ms ss last Moves wrong = inl (omega arith, omega arith)
-game_later s rows place game ms ss last Games wrong = inl (omega arith, omega arith)
-game_later s rows place game ms ss last Seen wrong = inl (omega arith, omega arith)
+game_later s rows place game ms ss last Moves wrong = inl (omega arith, omega arith, λ is. cc)
+game_later s rows place game ms ss last Games wrong = inl (omega arith, omega arith, λ is. cc)
+game_later s rows place game ms ss last Seen wrong = inl (omega arith, omega arith, λ is. cc)
 game_later s rows place game ms ss last Meta wrong = inr refl
 game_later s rows place game ms ss last _ wrong = absurd (wrong tt)
 
@@ -594,18 +527,6 @@ left_later table count o play some t is = inl (subst IsOfPlay (sym (some t is).0
 
 pub some_later : (table : Table) → IsOfPlay table ⊎ (table ≡ Meta) → IsLater (Some table)
 some_later table later t is = subst (λ (u : Table). IsOfPlay u ⊎ (u ≡ Meta)) (same_Some table t is) later
-
--- ---- what was read
-
--- the club of these people
-pub has_people : (rows : Rows) (ms : List Member) → AreMembers ms rows.members.items → (es : List Event)
-    → AreEvents es rows.events.items → AreRules rows.event_rules.items (length rows.events.items)
-    → (s : ClubState) × HasPeople s rows
-has_people rows ms are_ms es are_es are_rules =
-    let made = ruled-of es rows.events.items rows.event_rules.items are_es are_rules in (
-      club_with ms made.ruled,
-      record { members = are_ms; events = made.events_are; rules = made.rules_are },
-    )
 
 -- ---- challenges that were read
 

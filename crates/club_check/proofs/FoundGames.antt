@@ -1,5 +1,5 @@
 -- What the rows of one game that were read show of the tables, and what is found of the game.
-use Rattle.std.proofs.Common.{◌≡◌, ◌⊎◌, ℕ, pos, ◌+◌, ◌-◌, ◌<◌, ◌≤◌, List, [], ◌∷◌, length, map}
+use Rattle.std.proofs.Common.{◌≡◌, ◌⊎◌, ℕ, pos, ◌+◌, ◌<◌, ◌≤◌, List, [], ◌∷◌, length, map}
 use Rattle.std.proofs.Common.{Some, None, Option, refl, ap, sym, subst, ◌∙◌, arith, inl, inr, ℤ}
 use Rattle.std.specs.Prelude.{slice_get, string_bytes}
 use Rattle.std.proofs.lemmas.List.{length-map}
@@ -23,8 +23,7 @@ use Rattle.club_rows.specs.FirstSchema.{tables_at}
 use Rattle.club_rows.specs.Tables.{row_of_game, rows_of_moves, rows_of_seen, at_start, tables_of}
 use Rattle.club_audit.specs.Audit.{terms_told}
 use Rattle.club_audit.specs.internal.Audit.{HasPeople, until, AreAllOf, IsGameAt}
-use Rattle.club_audit.proofs.Proved.{id-told, club-right, later-game}
-use Rattle.club_audit.proofs.Proved.{numbered-at, all-right, right-club}
+use Rattle.club_audit.proofs.Proved.{all-right, club-right, id-told, later-game, numbered-at, right-club}
 use Rattle.club_audit.specs.FirstWrong.{order}
 use Rattle.club_audit.specs.internal.FirstWrong.{IsFirstWrong}
 use Rattle.club_rows.proofs.Proved.{moves-typed}
@@ -39,8 +38,8 @@ use Rattle.club_check.specs.RightMoves.{HasItsMoves}
 use Rattle.club_check.specs.internal.RightMoves.{HasMovesOf, HaveSeenOf, GamesWrong}
 use Rattle.club_check.specs.internal.RightMoves.{HaveGamesOf, MovesWrong, SeenWrong}
 use Rattle.club_check.proofs.StoredLemmas.{club_of_version, AreUnique, unique_of}
-use Rattle.club_changes.proofs.Proved.{moves_had}
-use Rattle.club_check.proofs.ClubLemmas.{before, typed_at}
+use Rattle.club_check.proofs.NumberedLemmas.{moves_had}
+use Rattle.club_check.proofs.ClubLemmas.{typed_at}
 use Rattle.club_check.proofs.FirstWrong.{stores_of, untyped_wrong}
 use Rattle.club_check.proofs.RowLemmas.{begun_is, by_sorted, same_back}
 use Rattle.club_check.proofs.RowLemmas.{turned_same, seen_of_game, Apart, Before, apart_back, entries_rise}
@@ -71,8 +70,8 @@ use Rattle.store_sql.specs.declared.fault.ReadFault.{ReadFault}
 use Rattle.store_sql.specs.declared.fault.ReadFault.TheVariants.{WrongType}
 use Rattle.club_check.specs.internal.Faults.{told}
 use Rattle.club_check.specs.internal.RightTables.{IsUntyped}
-use Rattle.club_check.proofs.ExaminedLemmas.{after_precedes, both_after, club_games, club_of, either, moves_number}
-use Rattle.club_check.proofs.ExaminedLemmas.{next, played_after, seen_number}
+use Rattle.club_check.proofs.ExaminedLemmas.{after_precedes, both_after, club_games, club_of, either}
+use Rattle.club_check.proofs.ExaminedLemmas.{next, played_after}
 
 -- ---- what the rows of one game that were read show of the tables
 
@@ -135,7 +134,8 @@ module _ (old : State) (unique : AreUnique (club_trees old.now)) (apart : AreApa
       rises rows sorted
       (pairs_turned Apart apart_back (beginning_with n shown) rows read.once
       (ascending-filter Apart (λ x. same_key (0 ∷ []) x (Int n ∷ [])) shown
-      (stored_apart (club_trees old.now) unique.moves apart (λ r h. let is = typed r h in (is.game, is.ply)))))
+      (stored_apart (moves 8) (λ r s. refl) (club_trees old.now 8) unique.moves apart
+      (λ r h. let is = typed r h in (is.game, is.ply)))))
 
   -- where the table has others that rise, they are these
   read_same : (n : ℤ) (rows made : List Row) (new : State) → AreReadOf (moves 8) 2 n rows old new

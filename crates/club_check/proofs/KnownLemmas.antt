@@ -8,7 +8,7 @@ use Rattle.sqlite.specs.Order.{Row, column}
 use Rattle.sqlite.specs.State.{State, IsUnchanged}
 use Rattle.sqlite_rules.specs.Lists.{Has}
 use Rattle.sqlite_rules.proofs.ListLemmas.{has_filtered, has_got, has_kept, all_has}
-use Rattle.store_tables.specs.Placed.{HasTablesOf, club_trees}
+use Rattle.store_tables.specs.Placed.{club_trees}
 use Rattle.club_rows.proofs.Proved.{same-pos}
 use Rattle.club_rows.specs.Club.{ClubState, both_games}
 use Rattle.club_rows.specs.Tables.{declares_number, event_row, rule_row, number}
@@ -29,25 +29,26 @@ use Rattle.store_tables.specs.Content.{Keeps, same_key, AreApart}
 use Rattle.store_tables.specs.Contents.{Content}
 use Rattle.store_tables.specs.Tables.{event_rules, events, games, moves, challenges, members}
 use Rattle.store_tables.specs.declared.names.Version.{Version}
-use Rattle.store_tables.specs.declared.names.Version.TheVariants.{First, Current}
+use Rattle.store_tables.specs.declared.names.Version.TheVariants.{V1, V2, V3}
 use Rattle.store_tables.specs.declared.rows.EventRow.{EventRow}
 use Rattle.store_tables.specs.declared.rows.EventRuleRow.{EventRuleRow}
-use Rattle.store_tables.specs.declared.names.Table.TheVariants.{Moves, EventRules, Games, Meta}
+use Rattle.store_tables.specs.declared.names.Table.TheVariants.{Challenges, Closings, Games, Meta, Moves, Rulings}
 use Rattle.store_tables.specs.declared.rows.GameTableRow.{GameTableRow}
 use Rattle.store_tables.specs.declared.rows.MoveRow.{MoveRow}
 use Rattle.store_tables.specs.declared.rows.Rows.{Rows}
 use Rattle.store_tables.proofs.Proved.{has_map, has_mapped, same_then, all_alike, ids_of}
 use Rattle.store_sql.specs.Read.{beginning_with}
 use Rattle.store_sql.specs.internal.Read.{AreCounted, IsReadAs}
-use Rattle.club_check.specs.ReasonIsRight.{HoldsOnly, IsRightFault, NamesTable}
-use Rattle.club_check.specs.internal.ReasonIsRight.{AreRead, AreRulesRead, undeclared_row}
+use Rattle.club_check.specs.ReasonIsRight.{HoldsNone, HoldsOnly, IsRightFault, NamesTable}
+use Rattle.club_check.specs.internal.ReasonIsRight.{AreRead, AreRulesRead, HoldsIn, undeclared_row}
 use Rattle.club_check.specs.Versions.{HoldsRows}
 use Rattle.club_check.specs.internal.Examined.{moves_in, IsAfter, IsPlayExamined, NamesPlay}
 use Rattle.club_check.specs.RightMoves.{DeclaresIn, HaveMoves}
 use Rattle.club_check.specs.internal.RightMoves.{HaveMovesOf}
-use Rattle.club_check.proofs.StoredLemmas.{one_of, stands, club_of_version}
+use Rattle.club_check.proofs.StoredLemmas.{stands, club_of_version}
 use Rattle.club_check.proofs.FirstWrong.{held_same, kept_same, rules_in, types_same, shown_held, first_games}
-use Rattle.club_check.proofs.FirstWrong.{first_known, first_moves, stores_of, JudgesChallenges, judged_among}
+use Rattle.club_check.proofs.FirstWrong.{damaged_same, first_known, first_moves, first_rulings, stores_of}
+use Rattle.club_check.proofs.FirstWrong.{JudgesChallenges, judged_among}
 use Rattle.club_check.proofs.ClubLemmas.{mapped_at, before, stays, read_after, typed_at}
 use Rattle.club_check.proofs.RowLemmas.{same_back, had_place}
 use Rattle.sqlite_value.specs.declared.value.Value.{Value}
@@ -60,7 +61,7 @@ use Rattle.club_core.specs.declared.seats.Pairing.{Pairing}
 use Rattle.club_rows.specs.FirstSchema.{tables_at}
 use Rattle.club_check.specs.internal.KnownGames.{AreGamesKnown, AreJudged, NamesUntyped, game_seat, known, row_seat}
 use Rattle.club_check.specs.internal.KnownGames.{IsJudged}
-use Rattle.club_check.specs.RightTables.{AreOfClub, HasGame, NamesFirstDamaged}
+use Rattle.club_check.specs.RightTables.{AreOfClub, HasGame, HaveNoRulings, NamesFirstDamaged}
 use Rattle.club_check.specs.internal.RightTables.{IsUnheld, IsUntyped, IsLater, IsOfPlay}
 use Rattle.club_check.specs.internal.RightTables.{NamesPlayed}
 use Rattle.club_check.specs.declared.fault.OpenFault.{OpenFault}
@@ -72,7 +73,7 @@ use Rattle.sqlite_value.specs.Order.{value_cmp}
 use Rattle.sqlite.specs.Values.{IsInt, or_null}
 use Rattle.sqlite_trees.specs.Tree.{IsAscending}
 use Rattle.sqlite_trees.specs.View.{is_int}
-use Rattle.club_changes.proofs.Proved.{take_next}
+use Rattle.club_check.proofs.NumberedLemmas.{take_next}
 use Rattle.store_tables.specs.internal.Rows.{HaveIds}
 use Rattle.club_audit.specs.FirstWrong.{order}
 use Rattle.club_check.proofs.FoundGames.{moves_alike}
@@ -172,7 +173,7 @@ JudgesMoves version content rows moves = (HaveMoves version content → HaveMove
 module _ (rows : Rows) (version : Version) (old new : State)
     (kept_events : Keeps (events 4) (club_trees old.now) (map event_cells rows.events.items))
     (rules : AreRulesRead version rows.events.items rows.event_rules.items old new)
-    (schema : HasTablesOf version old.now.schema) (s : ClubState) (people : HasPeople s rows) (v : Version)
+    (one : HoldsIn version old.now) (s : ClubState) (people : HasPeople s rows) (v : Version)
     (content : Content) (holds : HoldsRows v content old.now)
     (games_in : AreGamesIn rows.games.items (content 10)) where
   shown_same : HaveSame (moves_in (club_trees old.now)) (content 8)
@@ -189,12 +190,22 @@ module _ (rows : Rows) (version : Version) (old new : State)
       → AreRulesRead w rows.events.items rows.event_rules.items old new
       → (game : GameTableRow) (id : ℕ) (declares : Bool) → NamesRule rows game id declares
       → DeclaresIn w content (pos id) declares
-  declared First held told game id declares ruled =
+  declared V1 held told game id declares ruled =
       same-pos _ _
       (sym ruled.says ∙ none_placed rows.event_rules.items rows.events.items told.1 id ruled.rule ruled.rule_is)
-  declared Current held told game id declares ruled =
+  declared V2 held told game id declares ruled =
       let same = kept_same (event_rules 16) old.now (content 16) (map event_rule_cells rows.event_rules.items)
-      (rules_in old.now content held).rows told.keeps in
+      (rules_in V2 old.now content tt held).rows told.keeps in
+      let there = same.back (event_rule_cells ruled.rule)
+      (has_map event_rule_cells rows.event_rules.items ruled.rule
+      (placed_has rows.event_rules.items id ruled.rule ruled.rule_is)) in
+      let id_is = rule_id s rows people id ruled.rule ruled.rule_is in
+      subst (Has (content 16))
+      (λ i. Int (id_is i) ∷ Int (ruled.says i) ∷ [])
+      there
+  declared V3 held told game id declares ruled =
+      let same = kept_same (event_rules 16) old.now (content 16) (map event_rule_cells rows.event_rules.items)
+      (rules_in V3 old.now content tt held).rows told.keeps in
       let there = same.back (event_rule_cells ruled.rule)
       (has_map event_rule_cells rows.event_rules.items ruled.rule
       (placed_has rows.event_rules.items id ruled.rule ruled.rule_is)) in
@@ -211,8 +222,8 @@ module _ (rows : Rows) (version : Version) (old new : State)
 
   judged_told : HaveMoves v content → HaveMovesOf rows (moves_in (club_trees old.now))
   judged_told have =
-      let same : version ≡ v = one_of version v old.now.schema schema holds.schema in
-      let told = subst (λ w. AreRulesRead w rows.events.items rows.event_rules.items old new) same rules in
+      let told =
+      subst (λ w. AreRulesRead w rows.events.items rows.event_rules.items old new) (sym (one v content holds)) rules in
       record {
         typed = types_same IsMove (moves_in (club_trees old.now)) (content 8) shown_same.there have.typed;
         owned = λ row h.
@@ -244,7 +255,7 @@ module _ (rows : Rows) (version : Version) (old new : State)
       → (game : GameTableRow) (n : ℕ) → game.event ≡ pos (suc n) → (event : EventRow)
       → slice_get rows.events.items n ≡ Some event → (declares : Bool) → DeclaresIn w content (pos (suc n)) declares
       → NamesRule rows game (suc n) declares
-  ruled_back First held told game n is event at declares none =
+  ruled_back V1 held told game n is event at declares none =
       let (e, stands, cells_are) = numbered-at event_cells event_row 1 rows.events.items s.events
       people.events.rows_are n
       event at in
@@ -257,9 +268,22 @@ module _ (rows : Rows) (version : Version) (old new : State)
         rule_is = there;
         says = none_says rows.event_rules.items rows.events.items told.1 n rule there ∙ sym (ap pos none);
       }
-  ruled_back Current held told game n is event at declares says =
+  ruled_back V2 held told game n is event at declares says =
       let same = kept_same (event_rules 16) old.now (content 16) (map event_rule_cells rows.event_rules.items)
-      (rules_in old.now content held).rows told.keeps in
+      (rules_in V2 old.now content tt held).rows told.keeps in
+      let (rule, in_rules, cells_are) = has_mapped event_rule_cells rows.event_rules.items _ (same.there _ says) in
+      let (m, there) = had_place rows.event_rules.items rule in_rules in
+      let (event_is, said) = rule_parts (pos (suc n)) (pos (declares_number declares)) rule cells_are in
+      let places = same-pos (suc n) (suc m) (event_is ∙ rule_id s rows people (suc m) rule there) in
+      record {
+        event_is = is;
+        rule = rule;
+        rule_is = subst (λ k. place rows.event_rules.items k ≡ Some rule) (sym places) there;
+        says = sym said;
+      }
+  ruled_back V3 held told game n is event at declares says =
+      let same = kept_same (event_rules 16) old.now (content 16) (map event_rule_cells rows.event_rules.items)
+      (rules_in V3 old.now content tt held).rows told.keeps in
       let (rule, in_rules, cells_are) = has_mapped event_rule_cells rows.event_rules.items _ (same.there _ says) in
       let (m, there) = had_place rows.event_rules.items rule in_rules in
       let (event_is, said) = rule_parts (pos (suc n)) (pos (declares_number declares)) rule cells_are in
@@ -274,8 +298,8 @@ module _ (rows : Rows) (version : Version) (old new : State)
   -- moves that are right for what was read are so in the file
   judged_back : HaveMovesOf rows (moves_in (club_trees old.now)) → HaveMoves v content
   judged_back have =
-      let same : version ≡ v = one_of version v old.now.schema schema holds.schema in
-      let told = subst (λ w. AreRulesRead w rows.events.items rows.event_rules.items old new) same rules in
+      let told =
+      subst (λ w. AreRulesRead w rows.events.items rows.event_rules.items old new) (sym (one v content holds)) rules in
       record {
         typed = types_same IsMove (content 8) (moves_in (club_trees old.now)) shown_same.back have.typed;
         owned = λ row h.
@@ -318,10 +342,10 @@ module _ (rows : Rows) (version : Version) (old new : State)
 
 -- the same where all rows of games were read
 pub moves_told : (rows : Rows) (version : Version) (old new : State) → AreRead version rows old new
-    → HasTablesOf version old.now.schema → (s : ClubState) → HasPeople s rows → (v : Version) (content : Content)
+    → HoldsIn version old.now → (s : ClubState) → HasPeople s rows → (v : Version) (content : Content)
     → HoldsRows v content old.now → JudgesMoves v content rows (moves_in (club_trees old.now))
-moves_told rows version old new read schema s people v content holds =
-    judged_moves rows version old new read.events.keeps read.rules schema s people v content holds
+moves_told rows version old new read one s people v content holds =
+    judged_moves rows version old new read.events.keeps read.rules one s people v content holds
     (same_in rows.games.items (content 10) (held_same (games 10) 5 refl refl holds read.games.keeps))
 
 -- ---- what is known of the games where a value of theirs is of another type than its column, and what is named then
@@ -446,32 +470,58 @@ untyped_blamed oldest db e untyped (inr (inr (t, named))) = inr (inr (inr (
       untyped version (tables_at version s) holds (typed_at version s (club_of_version version s own) Games),
 )))
 
--- and of which table it is said
+-- moves that are right by the games by which they are judged are right, unless no content is held
+moves_either : (db : Database) (judged_rows : Rows)
+    → HoldsOnly db (λ version content. JudgesMoves version content judged_rows (moves_in (club_trees db)))
+    → (version : Version) (content : Content) → HoldsRows version content db
+    → IsUnheld db ⊎ HaveMovesOf judged_rows (moves_in (club_trees db)) → HaveMoves version content
+moves_either db judged_rows moves version content holds (inl unheld) = absurd (unheld version content holds tt)
+moves_either db judged_rows moves version content holds (inr right) = (moves version content holds).1 right
+
+-- and of which table it is said; where that is one after the rulings, there are none
 pub first_untyped : (known_rows judged_rows : Rows) (db : Database) (e : OpenFault) → IsUntyped Games db
-    → HoldsOnly db (λ version content. AreOfClub version EventRules content)
+    → HoldsOnly db (λ version content. AreOfClub version Closings content)
     → HoldsOnly db (λ version content. JudgesChallenges known_rows content)
     → HoldsOnly db (λ version content. JudgesMoves version content judged_rows (moves_in (club_trees db)))
+    → ((t : Table) → e ≡ Damaged t → order Rulings < order t → HoldsOnly db HaveNoRulings)
     → NamesUntyped known_rows judged_rows db e → NamesFirstDamaged db e
-first_untyped known_rows judged_rows db e untyped right judges moves (inl store) = λ t is. absurd (cc)
-first_untyped known_rows judged_rows db e untyped right judges moves (inr (inl memory)) = λ t is. absurd (cc)
-first_untyped known_rows judged_rows db e untyped right judges moves (inr (inr (inl (named, none)))) =
+first_untyped known_rows judged_rows db e untyped right judges moves unruled (inl store) = λ t is. absurd (cc)
+first_untyped known_rows judged_rows db e untyped right judges moves unruled (inr (inl memory)) = λ t is. absurd (cc)
+first_untyped known_rows judged_rows db e untyped right judges moves unruled (inr (inr (inl (named, none)))) =
     subst (NamesFirstDamaged db) (sym named)
     (first_known db known_rows none right (λ version content holds. (judges version content holds).1))
-first_untyped known_rows judged_rows db e untyped right judges moves
+first_untyped known_rows judged_rows db e untyped right judges moves unruled
     (inr (inr (inr ((cs, are), inl (named, wrong))))) =
     subst (NamesFirstDamaged db) (sym named)
     (first_moves db right (λ version content holds. (judges version content holds).0 cs are)
     (λ version content holds play. wrong version content holds ((moves version content holds).0 play)))
-first_untyped known_rows judged_rows db e untyped right judges moves
+first_untyped known_rows judged_rows db e untyped right judges moves unruled
     (inr (inr (inr ((cs, are), inr (named, play))))) =
     subst (NamesFirstDamaged db) (sym named)
     (first_games db untyped right (λ version content holds. (judges version content holds).0 cs are)
-    (λ version content holds. either version content holds play))
-  where
-    either : (version : Version) (content : Content) → HoldsRows version content db
-        → IsUnheld db ⊎ HaveMovesOf judged_rows (moves_in (club_trees db)) → HaveMoves version content
-    either version content holds (inl unheld) = absurd (unheld version content holds tt)
-    either version content holds (inr right) = (moves version content holds).1 right
+    (λ version content holds. moves_either db judged_rows moves version content holds play)
+    (unruled Games named (omega arith)))
+
+-- where there are rulings, and a table after them would be named, the rulings are the first wrong table
+pub ruled_untyped : (known_rows judged_rows : Rows) (db : Database) (e : OpenFault)
+    → HoldsOnly db (λ version content. AreOfClub version Closings content)
+    → HoldsOnly db (λ version content. JudgesChallenges known_rows content)
+    → HoldsOnly db (λ version content. JudgesMoves version content judged_rows (moves_in (club_trees db)))
+    → NamesUntyped known_rows judged_rows db e → (t : Table) → e ≡ Damaged t → order Rulings < order t
+    → HoldsNone db HaveNoRulings → NamesFirstDamaged db (Damaged Rulings)
+ruled_untyped known_rows judged_rows db e right judges moves (inl store) t is low ruled = absurd (cc)
+ruled_untyped known_rows judged_rows db e right judges moves (inr (inl memory)) t is low ruled = absurd (cc)
+ruled_untyped known_rows judged_rows db e right judges moves (inr (inr (inl (named, none)))) t is low ruled =
+    let same : t ≡ Challenges = damaged_same t Challenges (sym is ∙ named) in
+    absurd (let sooner = ap order same in omega (arith, sooner, low))
+ruled_untyped known_rows judged_rows db e right judges moves (inr (inr (inr ((cs, are), inl (named, wrong))))) t is low
+    ruled =
+    let same : t ≡ Moves = damaged_same t Moves (sym is ∙ named) in
+    absurd (let sooner = ap order same in omega (arith, sooner, low))
+ruled_untyped known_rows judged_rows db e right judges moves (inr (inr (inr ((cs, are), inr (named, play))))) t is low
+    ruled =
+    first_rulings db right (λ version content holds. (judges version content holds).0 cs are)
+    (λ version content holds. moves_either db judged_rows moves version content holds play) ruled
 
 -- ---- moves are judged alike by the games of a content and by those that were read of it, where some have values of
 -- other types

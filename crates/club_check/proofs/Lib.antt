@@ -1,9 +1,15 @@
+pub mod ArbiterLemmas
+pub mod NumberedLemmas
 pub mod ClubLemmas
 pub mod ExaminedLemmas
 pub mod FirstWrong
 pub mod FoundGames
+pub mod KeptLemmas
 pub mod KnownLemmas
+pub mod PeopleLemmas
 pub mod PlayedLemmas
 pub mod Proved
 pub mod RowLemmas
+pub mod StoredClub
 pub mod StoredLemmas
+pub mod ToldLemmas

@@ -22,8 +22,8 @@ use Rattle.club_rows.specs.Tables.{rows_of_seen, tables_of, row_of_game}
 use Rattle.store_sql.specs.Read.{beginning_with}
 use Rattle.store_sql.specs.internal.Read.{IsReadAs, AreReadOf}
 use Rattle.club_check.specs.internal.Examined.{past, seen_in}
-use Rattle.club_changes.specs.Steps.{HaveSame}
-use Rattle.club_changes.proofs.Proved.{ids_agree, ids_same, gathered_had, gathered_has, moved}
+use Rattle.store_tables.specs.Changes.{HaveSame}
+use Rattle.club_check.proofs.NumberedLemmas.{ids_agree, ids_same, gathered_had, gathered_has, moved}
 use Rattle.std.specs.Cmp.{IsTotalOrder, tied_itself}
 use Rattle.std.specs.List.{AllByRecursion, list_any}
 use Rattle.std.specs.List.Sorted.{IsSorted, IsPermutation}
@@ -46,7 +46,7 @@ use Rattle.club_core.specs.Events.{Event, Terms}
 use Rattle.club_core.specs.Game.{Entry, Game}
 use Rattle.club_core.specs.State.{draughts, shogi, place, terms_at}
 use Rattle.store_tables.specs.internal.Reading.{by_columns, rising}
-use Rattle.store_tables.specs.Tables.{moves, challenges, seen, scores}
+use Rattle.store_tables.specs.Tables.{challenges, seen, scores}
 use Rattle.club_rows.specs.Club.{ClubGame, both_games, ClubState, IsClub}
 use Rattle.sqlite.specs.State.{State}
 use Rattle.sqlite.specs.Table.{Table as Definition}
@@ -312,13 +312,13 @@ one_rising (x ∷ xs) (y ∷ ys) up over to from =
 int_less : (p q : ℕ) → p < q → int_cmp (pos p) (pos q) ≡ Less
 int_less p q low = let less : ltb p q ≡ true = (Decides-ltb p q).1 low in rw less refl
 
-value_less : (a b : Value) (p q : ℕ) → a ≡ Int (pos p) → b ≡ Int (pos q) → p < q → value_cmp a b ≡ Less
+pub value_less : (a b : Value) (p q : ℕ) → a ≡ Int (pos p) → b ≡ Int (pos q) → p < q → value_cmp a b ≡ Less
 value_less a b p q one two low = (λ i. value_cmp (one i) (two i)) ∙ (value_cmp-Int (pos p) (pos q) ∙ int_less p q low)
 
 pub value_same : (a b : Value) (p : ℕ) → a ≡ Int (pos p) → b ≡ Int (pos p) → value_cmp a b ≡ Equal
 value_same a b p one two = (λ i. value_cmp (one i) (two i)) ∙ tied_itself value_cmp_total (Int (pos p))
 
-before_ply : (a b : Row) (g p q : ℕ) → column a 0 ≡ Int (pos g) → column b 0 ≡ Int (pos g) → column a 1 ≡ Int (pos p)
+pub before_ply : (a b : Row) (g p q : ℕ) → column a 0 ≡ Int (pos g) → column b 0 ≡ Int (pos g) → column a 1 ≡ Int (pos p)
     → column b 1 ≡ Int (pos q) → p < q → Before a b
 before_ply a b g p q one two first second low =
     λ i. ordering_then (value_same (column a 0) (column b 0) g one two i)
@@ -363,7 +363,7 @@ module _ (events : List Event) where
   game_rise id (shogi g) = entries_rise both_games.shogi (terms_at (place events g.event)) id
       (record g { entries = [] }) g.entries
 
--- ---- no two rows of the table have one game and ply
+-- ---- no two rows of a table have one key, where that is its first two columns
 
 then_parts : (a b : Ordering) → ordering_then a (ordering_then b Equal) ≡ Equal → (a ≡ Equal) × (b ≡ Equal)
 then_parts Less b e = cc
@@ -418,22 +418,26 @@ turned {D} {Q} stored pair (x ∷ rows) sub up = (
   turned stored pair rows (λ r h. sub r (inr h)) up.1,
 )
 
-module _ (trees : Trees) (no_clash : (r : Row) → Has (trees 8) r → clashes plain (1 ∷ 2 ∷ []) (trees 8) r ≡ false)
-    (apart : AreApart (trees 8)) (ints : (r : Row) → Has (trees 8) r → IsInt (column r 1) × IsInt (column r 2)) where
-  keys_apart : (r s : Row) → Has (trees 8) r → Has (trees 8) s → value_cmp (rowid r) (rowid s) ≢ Equal
-      → Apart (cells (moves 8) r) (cells (moves 8) s)
+-- a table whose key is its first two columns, which are whole numbers
+module _ (table : Definition)
+    (shown : (r s : Row) → by (cells table r) (cells table s) ≡ ordering_then (value_cmp (column r 1) (column s 1))
+    (ordering_then (value_cmp (column r 2) (column s 2)) Equal)) (stored : List Row)
+    (no_clash : (r : Row) → Has stored r → clashes plain (1 ∷ 2 ∷ []) stored r ≡ false) (apart : AreApart stored)
+    (ints : (r : Row) → Has stored r → IsInt (column r 1) × IsInt (column r 2)) where
+  keys_apart : (r s : Row) → Has stored r → Has stored s → value_cmp (rowid r) (rowid s) ≢ Equal
+      → Apart (cells table r) (cells table s)
   keys_apart r s h k other tie =
-      let both = then_parts (value_cmp (column r 1) (column s 1)) (value_cmp (column r 2) (column s 2)) tie in
+      let both = then_parts (value_cmp (column r 1) (column s 1)) (value_cmp (column r 2) (column s 2))
+      (sym (shown r s) ∙ tie) in
       let one = ints r h in
       let two = ints s k in
       let game : equal Binary (column s 1) (column r 1) ≡ true = same_of (column s 1) (column r 1) two.0 one.0 both.0 in
       let ply : equal Binary (column s 2) (column r 2) ≡ true = same_of (column s 2) (column r 2) two.1 one.1 both.1 in
-      other (one_rowid (1 ∷ 2 ∷ []) (trees 8) apart no_clash r s h k (agree_of s r game ply))
+      other (one_rowid (1 ∷ 2 ∷ []) stored apart no_clash r s h k (agree_of s r game ply))
 
   -- no two rows that are shown have one key
-  pub stored_apart : IsAscending Apart (map (cells (moves 8)) (trees 8))
-  stored_apart = ascending-map Apart (cells (moves 8)) (trees 8)
-      (turned (trees 8) keys_apart (trees 8) (λ r h. h) apart.apart)
+  pub stored_apart : IsAscending Apart (map (cells table) stored)
+  stored_apart = ascending-map Apart (cells table) stored (turned stored keys_apart stored (λ r h. h) apart.apart)
 
 -- ---- the rows of challenges, of positions and of scores that were read are those of the club, each once
 

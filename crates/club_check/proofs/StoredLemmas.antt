@@ -1,7 +1,7 @@
 -- What a database has of a club, in whatever version of its tables.
-use Rattle.std.proofs.Common.{◌≡◌, Bool, true, false, true≢false, List, [], ◌∷◌, refl, sym, subst, ap, ◌∙◌}
+use Rattle.std.proofs.Common.{◌≡◌, Bool, true, false, true≢false, List, [], ◌∷◌, refl, sym, subst, ◌∙◌, arith}
 use Rattle.sqlite_catalog.specs.Change.{is_used}
-use Rattle.store_tables.specs.Names.{table_name}
+use Rattle.store_tables.specs.Names.{in_order, table_count, table_name}
 use Rattle.std.specs.List.{AllByRecursion}
 use Rattle.sqlite.specs.Effect.{Database}
 use Rattle.sqlite.specs.Order.{Row}
@@ -15,14 +15,13 @@ use Rattle.sqlite_value.specs.Keys.{plain}
 use Rattle.store_tables.specs.Placed.{HasClubTables, HasTables, HasTablesOf, HasTableAt, by_club, club_trees, tree_in}
 use Rattle.store_tables.specs.Content.{AreApart}
 use Rattle.store_tables.specs.Contents.{AreStored, Content, Stores}
-use Rattle.store_tables.proofs.Proved.{has_first_tables, keeps_moved, tables_alone, unique_here, versions_apart}
-use Rattle.store_tables.specs.Tables.{schema_of}
-use Rattle.store_tables.specs.internal.Tables.{IsClubSchema}
+use Rattle.store_tables.proofs.Proved.{fewer, has_first_tables, keeps_moved, tables_alone, unique_here, versions_apart}
+use Rattle.store_tables.specs.Tables.{IsServed, schema_of}
 use Rattle.store_tables.specs.declared.names.Table.{Table}
 use Rattle.store_tables.specs.declared.names.Table.TheVariants.{Members, Events, EventRules, Challenges, Moves, Games}
-use Rattle.store_tables.specs.declared.names.Table.TheVariants.{Seen, Scores, Meta}
+use Rattle.store_tables.specs.declared.names.Table.TheVariants.{Seen, Scores, Meta, Keys, Rulings, Closings}
 use Rattle.store_tables.specs.declared.names.Version.{Version}
-use Rattle.store_tables.specs.declared.names.Version.TheVariants.{First, Current}
+use Rattle.store_tables.specs.declared.names.Version.TheVariants.{V1, V2, V3}
 use Rattle.club_rows.specs.Club.{ClubState, IsClub}
 use Rattle.club_rows.specs.FirstSchema.{IsClubOf}
 use Rattle.club_check.specs.RightTables.{HasTable}
@@ -30,31 +29,23 @@ use Rattle.club_check.specs.Versions.{HoldsRows}
 
 -- ---- the versions
 
--- a schema has the tables of one version
-pub one_of : (v w : Version) (schema : Schema) → HasTablesOf v schema → HasTablesOf w schema → v ≡ w
-one_of First First schema a b = refl
-one_of Current Current schema a b = refl
-one_of First Current schema a b = absurd (versions_apart schema a b)
-one_of Current First schema a b = absurd (versions_apart schema b a)
+-- the schema tells schema 1 from the later ones
+pub first_alone : (version : Version) (schema : Schema) → HasTablesOf V1 schema → HasTablesOf version schema
+    → version ≡ V1
+first_alone V1 schema first has = refl
+first_alone V2 schema first has = absurd (versions_apart schema V2 refl first has.0)
+first_alone V3 schema first has = absurd (versions_apart schema V3 refl first has.0)
 
 -- those of a club alone are those of a version
 pub alone_of : (version : Version) (schema : Schema) → schema ≡ schema_of version → HasTablesOf version schema
 alone_of version schema is = subst (HasTablesOf version) (sym is) (tables_alone version)
 
-pub tables_of_club : (schema : Schema) → IsClubSchema schema → HasClubTables schema
-tables_of_club schema (version, is) = (version, alone_of version schema is)
-
-pub exactly_of : (version : Version) (schema : Schema) → IsClubSchema schema → HasTablesOf version schema
-    → schema ≡ schema_of version
-exactly_of version schema (other, is) has =
-    is ∙ ap schema_of (one_of other version schema (alone_of other schema is) has)
-
 -- the first tables of each version stand
-pub first_stand : (schema : Schema) → HasClubTables schema → HasTables First schema
+pub first_stand : (schema : Schema) → HasClubTables schema → HasTables V1 schema
 first_stand schema (version, has) = has_first_tables version schema has.0
 
 -- each of them
-pub stands : (t : Table) → HasTable t First → {schema : Schema} → HasClubTables schema → HasTableAt schema t
+pub stands : (t : Table) → HasTable t V1 → {schema : Schema} → HasClubTables schema → HasTableAt schema t
 stands Meta there {schema} has = (first_stand schema has).0
 stands Members there {schema} has = (first_stand schema has).1.0
 stands Events there {schema} has = (first_stand schema has).1.1.0
@@ -64,32 +55,69 @@ stands Games there {schema} has = (first_stand schema has).1.1.1.1.1.0
 stands Seen there {schema} has = (first_stand schema has).1.1.1.1.1.1.0
 stands Scores there {schema} has = (first_stand schema has).1.1.1.1.1.1.1.0
 stands EventRules there has = absurd there
+stands Keys there has = absurd there
+stands Rulings there has = absurd there
+stands Closings there has = absurd there
 
 -- that of the rules of events
-pub rules_stand : (schema : Schema) → HasTablesOf Current schema → HasTableAt schema EventRules
-rules_stand schema has = has.0.1.1.1.1.1.1.1.1.0
+pub rules_stand : (version : Version) (schema : Schema) → HasTable EventRules version → HasTablesOf version schema
+    → HasTableAt schema EventRules
+rules_stand V1 schema there has = absurd there
+rules_stand V2 schema there has = has.0.1.1.1.1.1.1.1.1.0
+rules_stand V3 schema there has = has.0.1.1.1.1.1.1.1.1.0
 
--- whether a version has the table of the rules of events
-abbrev pub has_rules : Version → Bool
-has_rules First = false
-has_rules Current = true
+-- those of schema 3
+pub keys_stand : (schema : Schema) → HasTablesOf V3 schema → HasTableAt schema Keys
+keys_stand schema has = has.0.1.1.1.1.1.1.1.1.1.0
 
--- A club's tables are those of the version that has this table, or has it not.
-pub rules_fit : (version : Version) (schema : Schema) (there : Bool) → HasClubTables schema
-    → (HasTableAt schema EventRules → there ≡ true) → (is_used schema (table_name EventRules) ≡ false → there ≡ false)
-    → there ≡ has_rules version → HasTablesOf version schema
-rules_fit First schema there (First, has) stands missing fits = has
-rules_fit Current schema there (Current, has) stands missing fits = has
-rules_fit First schema there (Current, has) stands missing fits =
-    absurd (true≢false (sym (stands (rules_stand schema has)) ∙ fits))
-rules_fit Current schema there (First, has) stands missing fits = absurd (true≢false (sym fits ∙ missing has.1.0))
+pub closings_stand : (schema : Schema) → HasTablesOf V3 schema → HasTableAt schema Closings
+closings_stand schema has = has.0.1.1.1.1.1.1.1.1.1.1.1.0
+
+-- each of these tables that schema 3 has and schema 1 has not
+pub third_stands : (schema : Schema) → HasTables V3 schema → HasTableAt schema EventRules × HasTableAt schema Keys
+    × HasTableAt schema Rulings × HasTableAt schema Closings
+third_stands schema has = (
+  has.1.1.1.1.1.1.1.1.0,
+  has.1.1.1.1.1.1.1.1.1.0,
+  has.1.1.1.1.1.1.1.1.1.1.0,
+  has.1.1.1.1.1.1.1.1.1.1.1.0,
+)
+
+-- a schema with the tables of schema 3 has those of schema 2
+second_of_third : (schema : Schema) → HasTablesOf V3 schema → HasTablesOf V2 schema
+second_of_third schema has =
+    (fewer (HasTableAt schema) in_order (table_count V2) (table_count V3) (omega arith) has.0, tt)
+
+-- A club's tables are those of schema 1 if it has no table of rules of events, and else those of schema 2, which a
+-- club of schema 3 has too.
+pub rules_missing : (schema : Schema) (there : Bool) → HasClubTables schema
+    → (HasTableAt schema EventRules → there ≡ true) → there ≡ false → HasTablesOf V1 schema
+rules_missing schema there (V1, has) stands fits = has
+rules_missing schema there (V2, has) stands fits =
+    absurd (true≢false (sym (stands (rules_stand V2 schema tt has)) ∙ fits))
+rules_missing schema there (V3, has) stands fits =
+    absurd (true≢false (sym (stands (rules_stand V3 schema tt has)) ∙ fits))
+
+pub rules_found : (schema : Schema) (there : Bool) → HasClubTables schema
+    → (is_used schema (table_name EventRules) ≡ false → there ≡ false) → there ≡ true → HasTablesOf V2 schema
+rules_found schema there (V1, has) missing fits = absurd (true≢false (sym fits ∙ missing has.1.0))
+rules_found schema there (V2, has) missing fits = has
+rules_found schema there (V3, has) missing fits = second_of_third schema has
+
+-- a served version has this table
+pub has_rules : (version : Version) → IsServed version → HasTable EventRules version
+has_rules V1 served = absurd (true≢false (sym served))
+has_rules V2 served = tt
+has_rules V3 served = tt
 
 -- Where it stands alone its tables have the trees that it gives them.
 trees_alone : (version : Version) (trees : Trees)
     → AllByRecursion (λ t. by_club (schema_of version) trees t.tree ≡ trees t.tree) (schema_of version).tables
 unfolding by_club tree_in same_name
-trees_alone First trees = (refl, (refl, (refl, (refl, (refl, (refl, (refl, (refl, tt))))))))
-trees_alone Current trees = (refl, (refl, (refl, (refl, (refl, (refl, (refl, (refl, (refl, tt)))))))))
+trees_alone V1 trees = (refl, (refl, (refl, (refl, (refl, (refl, (refl, (refl, tt))))))))
+trees_alone V2 trees = (refl, (refl, (refl, (refl, (refl, (refl, (refl, (refl, (refl, tt)))))))))
+trees_alone V3 trees =
+    (refl, (refl, (refl, (refl, (refl, (refl, (refl, (refl, (refl, (refl, (refl, (refl, tt))))))))))))
 
 -- what some trees store others store that have the same rows
 stored_by : (here there : Trees) (content : Content) (tables : List Definition)
@@ -113,8 +141,9 @@ held_alone version db content is stored =
     (subst (λ s. AreStored (schema_of version) (by_club s db.trees) content) is stored)
 
 pub club_of_version : (version : Version) (s : ClubState) → IsClubOf version s → IsClub s
-club_of_version First s is = is.club
-club_of_version Current s is = is
+club_of_version V1 s is = is.club
+club_of_version V2 s is = is.0
+club_of_version V3 s is = is.0
 
 -- ---- no two rows have one key
 

@@ -6,13 +6,15 @@ use Rattle.sqlite.specs.Effect.{Database}
 use Rattle.sqlite.specs.declared.types.Value.TheVariants.{Int}
 use Rattle.sqlite_rules.specs.Lists.{Has}
 use Rattle.store_tables.specs.Cells.{IsEventRule, IsMember, IsEvent, IsChallenge, IsMove, IsGame}
-use Rattle.store_tables.specs.Cells.{IsSeen, IsScore}
+use Rattle.store_tables.specs.Cells.{IsSeen, IsScore, IsKey, IsRuling, IsClosing}
 use Rattle.store_tables.specs.Contents.{Content}
 use Rattle.store_tables.specs.Tables.{schema_number}
 use Rattle.store_tables.specs.declared.names.Table.{Table}
 use Rattle.store_tables.specs.declared.names.Table.TheVariants.{Members, Events, EventRules, Challenges, Moves, Games}
-use Rattle.store_tables.specs.declared.names.Table.TheVariants.{Seen, Scores, Meta}
+use Rattle.store_tables.specs.declared.names.Table.TheVariants.{Seen, Scores, Meta, Keys, Rulings, Closings}
+use Rattle.store_tables.specs.Placed.{HasTables}
 use Rattle.store_tables.specs.declared.names.Version.{Version}
+use Rattle.store_tables.specs.declared.names.Version.TheVariants.{V3}
 use Rattle.store_tables.specs.Names.{tree_of}
 use Rattle.schema_match.specs.Shapes.{is_of_club}
 use Rattle.club_check.specs.Places.{NamesRows}
@@ -38,6 +40,9 @@ HasTypes Moves content = AllByRecursion IsMove (content (tree_of Moves))
 HasTypes Games content = AllByRecursion IsGame (content (tree_of Games))
 HasTypes Seen content = AllByRecursion IsSeen (content (tree_of Seen))
 HasTypes Scores content = AllByRecursion IsScore (content (tree_of Scores))
+HasTypes Keys content = AllByRecursion IsKey (content (tree_of Keys))
+HasTypes Rulings content = AllByRecursion IsRuling (content (tree_of Rulings))
+HasTypes Closings content = AllByRecursion IsClosing (content (tree_of Closings))
 HasTypes Meta content = IsOneMeta (content (tree_of Meta))
 
 -- whatever content the database may hold, in whatever version, has this property
@@ -64,9 +69,15 @@ abbrev pub IsNumberFrom : Version → ℤ → Type 0
 IsNumberFrom oldest n =
     (version : Version) × (n ≡ pos (schema_number version)) × (schema_number oldest ≤ schema_number version)
 
--- the error names the schema number in `meta`, which is not that of an accepted version
+-- the schema number is that of schema 3, and not all tables of schema 3 exist
+abbrev pub LacksTables : Database → ℤ → Type 0
+LacksTables db n = (n ≡ pos (schema_number V3)) × (¬ HasTables V3 db.schema)
+
+-- The error names the schema number in `meta`. It is not that of an accepted version, or tables of schema 3 are
+-- missing.
 abbrev pub NamesSchema : Version → Database → OpenFault → Type 0
-NamesSchema oldest db fault = (n : ℤ) × (fault ≡ Schema n) × (¬ IsNumberFrom oldest n) × HasNumber db n
+NamesSchema oldest db fault =
+    (n : ℤ) × (fault ≡ Schema n) × ((¬ IsNumberFrom oldest n) ⊎ LacksTables db n) × HasNumber db n
 
 -- The database is reported as foreign: the schema number does not fit the tables, or the schema is not equivalent to a
 -- club's, because other programs changed it.

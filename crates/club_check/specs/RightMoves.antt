@@ -13,7 +13,7 @@ use Rattle.store_tables.specs.Changes.{HaveSame}
 use Rattle.store_tables.specs.Contents.{Content}
 use Rattle.store_tables.specs.declared.names.Table.TheVariants.{Moves}
 use Rattle.store_tables.specs.declared.names.Version.{Version}
-use Rattle.store_tables.specs.declared.names.Version.TheVariants.{First, Current}
+use Rattle.store_tables.specs.declared.names.Version.TheVariants.{V1}
 use Rattle.store_tables.specs.declared.rows.EventRow.{EventRow}
 use Rattle.store_tables.specs.declared.rows.GameTableRow.{GameTableRow}
 use Rattle.store_tables.specs.declared.rows.MoveRow.{MoveRow}
@@ -32,8 +32,8 @@ pub record HasItsMoves (rows : List Row) (game : GameTableRow) (kind : GameKind)
 
 -- the event rules say this about declarations in the event with this id
 abbrev pub DeclaresIn : Version → Content → ℤ → Bool → Type 0
-DeclaresIn First content id declares = declares_number declares ≡ 0
-DeclaresIn Current content id declares =
+DeclaresIn V1 content id declares = declares_number declares ≡ 0
+DeclaresIn _ content id declares =
     Has (content (tree_of EventRules)) (Int id ∷ number (declares_number declares) ∷ [])
 
 -- Each row of moves has the right types and belongs to a game. The moves of each game are right, if its event exists,

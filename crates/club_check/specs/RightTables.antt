@@ -1,5 +1,5 @@
 -- When the rows of a table are right, given the tables before it, and which table an error names.
-use Rattle.std.specs.Prelude.{◌≡◌, ◌≢◌, ◌<◌, ◌≤◌, ◌^◌, ℕ, List, map, IsTrue}
+use Rattle.std.specs.Prelude.{◌≡◌, ◌≢◌, ◌<◌, ◌≤◌, ◌^◌, ℕ, List, [], map, IsTrue}
 use Rattle.sqlite.specs.Effect.{Database}
 use Rattle.sqlite.specs.Order.{Row, column}
 use Rattle.sqlite_rules.specs.Lists.{Has}
@@ -7,11 +7,10 @@ use Rattle.store_tables.specs.Changes.{HaveSame}
 use Rattle.store_tables.specs.Contents.{Content}
 use Rattle.store_tables.specs.declared.names.Table.{Table}
 use Rattle.store_tables.specs.declared.names.Table.TheVariants.{Members, Events, EventRules, Challenges, Moves, Games}
-use Rattle.store_tables.specs.declared.names.Table.TheVariants.{Seen, Scores, Meta}
+use Rattle.store_tables.specs.declared.names.Table.TheVariants.{Seen, Scores, Meta, Keys, Rulings, Closings}
 use Rattle.store_tables.specs.declared.names.Version.{Version}
-use Rattle.store_tables.specs.declared.names.Version.TheVariants.{First}
+use Rattle.store_tables.specs.declared.names.Version.TheVariants.{V1, V2}
 use Rattle.store_tables.specs.Names.{tree_of}
-use Rattle.store_tables.specs.Tables.{standing}
 use Rattle.club_rows.specs.Club.{ClubState}
 use Rattle.club_rows.specs.FirstSchema.{IsClubOf, tables_at}
 use Rattle.club_rows.specs.Tables.{challenge_row, number}
@@ -40,10 +39,19 @@ rows_in Games content = content (tree_of Games)
 rows_in Seen content = content (tree_of Seen)
 rows_in Scores content = content (tree_of Scores)
 rows_in Meta content = content (tree_of Meta)
+rows_in Keys content = content (tree_of Keys)
+rows_in Rulings content = content (tree_of Rulings)
+rows_in Closings content = content (tree_of Closings)
 
 -- the schema of the version has this table
 abbrev pub HasTable : Table → Version → Type 0
-HasTable EventRules First = ⊥
+HasTable EventRules V1 = ⊥
+HasTable Keys V1 = ⊥
+HasTable Keys V2 = ⊥
+HasTable Rulings V1 = ⊥
+HasTable Rulings V2 = ⊥
+HasTable Closings V1 = ⊥
+HasTable Closings V2 = ⊥
 HasTable t version = Unit {0}
 
 -- A legal club of this version has the rows of this table and of each table before it.
@@ -82,11 +90,16 @@ pub record HaveChallenges (content : Content) : Type 0 where
   pub each : Each (IsChallengeIn content) challenges
   pub numbers : HaveUniqueKeys key_of_challenge challenges
 
--- The table is right: a legal club has its rows with those of the tables before it. Challenges and moves refer to
--- games, a later table, so they have conditions of their own.
+-- there is no row of `rulings`: no command gives a ruling
+abbrev pub HaveNoRulings : Version → Content → Type 0
+HaveNoRulings version content = HasTable Rulings version → content (tree_of Rulings) ≡ []
+
+-- The table is right: a legal club has its rows with those of the tables before it. Challenges, moves and rulings refer
+-- to games, a later table, so they have conditions of their own.
 abbrev pub IsRight : Table → Version → Content → Type 0
 IsRight Challenges version content = HaveChallenges content
 IsRight Moves version content = HaveMoves version content
+IsRight Rulings version content = HaveNoRulings version content
 IsRight t version content = AreOfClub version t content
 
 -- The named table is not right, and each table before it is.

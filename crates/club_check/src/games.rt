@@ -55,14 +55,17 @@ fn order_of(table: Table) -> u8
 {
     match table {
         Table::Members => 0,
-        Table::Events => 1,
-        Table::EventRules => 2,
-        Table::Challenges => 3,
-        Table::Moves => 4,
-        Table::Games => 5,
-        Table::Seen => 6,
-        Table::Scores => 7,
-        Table::Meta => 8,
+        Table::Keys => 1,
+        Table::Events => 2,
+        Table::EventRules => 3,
+        Table::Closings => 4,
+        Table::Challenges => 5,
+        Table::Moves => 6,
+        Table::Rulings => 7,
+        Table::Games => 8,
+        Table::Seen => 9,
+        Table::Scores => 10,
+        Table::Meta => 11,
     }
 }
 

@@ -9,12 +9,13 @@
 //! - `check_database` (`reason_is_right`, `first`): the reason of a refusal is true, and a damaged table that is named
 //!   is the first wrong one.
 //! - `check_database` (`accepts_sound`), `check_schemas` (`accepts_sound`, `standing`, `newer`): a legal club of
-//!   either schema is refused only if a call failed or memory ran out.
+//!   any schema is refused only if a call failed or memory ran out.
 //! - `check_schemas` (`shape`), `check_database` (`shape`): accepted tables behave as those of the version, by
 //!   whatever statements they were made.
 //! - `Display` for `OpenFault`: a fault is written as its number, its name and what it names.
 #![tactic(auto)]
 
+mod arbiter;
 mod audit;
 mod fault;
 mod games;

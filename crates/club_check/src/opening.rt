@@ -5,15 +5,14 @@ ghost use Rattle.sqlite.specs.State.{HasCleanDisk, IsUnchanged};
 ghost use Rattle.sqlite.specs.Effect.{IsDatabase};
 ghost use Rattle.sqlite.specs.Held.{state};
 ghost use Rattle.store_tables.specs.Placed.{HasClubTables, HasTablesOf};
-ghost use Rattle.store_tables.specs.Club.{IsExactly, IsOpened};
 ghost use Rattle.store_tables.specs.Reading.{Reads};
 ghost use Rattle.store_tables.specs.internal.Rows.{HaveIds};
-ghost use Rattle.store_tables.specs.Tables.{club_schema, schema_number, schema_of};
-ghost use Rattle.store_tables.specs.internal.Tables.{IsClubSchema};
-ghost use Rattle.store_tables.specs.declared.names.Version.TheVariants.{Current};
+ghost use Rattle.store_tables.specs.Tables.{IsServed, schema_number};
+ghost use Rattle.store_tables.specs.declared.names.Version.TheVariants.{V1, V2};
 ghost use Rattle.schema_match.specs.Shapes.{is_of_club};
 ghost use Rattle.club_check.specs.ReasonIsRight.{IsRightFault, NamesTable};
-ghost use Rattle.club_check.specs.Versions.{HasClub, HoldsRows};
+ghost use Rattle.club_check.specs.Versions.{HasClub, HasToldTables, HoldsRows};
+ghost use Rattle.club_rows.specs.Tables.{version_of};
 ghost use Rattle.club_check.specs.Versions.{IsOpenedAt};
 ghost use Rattle.club_check.specs.internal.Versions.{IsExactlyClub};
 ghost use Rattle.club_check.specs.internal.Examined.{AreExamined, AreScoresExamined, IsAfter, IsPlayExamined};
@@ -26,10 +25,11 @@ ghost use Rattle.club_check.specs.internal.KnownGames.{NamesUntyped};
 ghost use Rattle.club_check.specs.RightTables.{NamesFirstDamaged};
 ghost use Rattle.club_check.specs.internal.RightTables.{IsLater, NamesExamined, NamesPlayed, NamesScores};
 
+use crate::arbiter::named_with;
 use crate::audit::audit;
 use crate::fault::OpenFault;
 use crate::games::{RowCounts, count_of, examine_games};
-use crate::read::{Register, read, read_rows};
+use crate::read::{Register, RegisterRows, read, read_rows};
 use clocks::Moment;
 use club_audit::are_scores;
 use club_rows::numbers::to_moment;
@@ -109,16 +109,20 @@ fn with_games(rows: Rows, judged: Vec<GameTableRow>) -> Rows
     let Rows {
         meta,
         members,
+        keys,
         events,
         event_rules,
+        closings,
         challenges,
         games: _known,
     } = rows;
     Rows {
         meta,
         members,
+        keys,
         events,
         event_rules,
+        closings,
         challenges,
         games: judged,
     }
@@ -193,122 +197,170 @@ fn before_scores(wrong: Option<Table>) -> Option<Table>
     }
 }
 
-/// Checks that the database holds a legal club of schema 2, and changes nothing.
-/// Wrong tables are reported in the order members, events, event rules, challenges, moves, games, positions, scores,
-/// `meta`.
+/// Checks that the database holds a legal club of schema 2 or 3, and returns the version. Changes nothing.
+/// Wrong tables are reported in the order members, keys, events, event rules, closings, challenges, moves, rulings,
+/// games, positions, scores, `meta`.
 ///
 /// # Errors
 ///
 /// - `OpenFault::Foreign`: a table or column is missing, the schema number does not fit the tables, or they answer
 ///   queries differently from a club's.
-/// - `OpenFault::Schema`: `meta` has another schema number, for example 1.
+/// - `OpenFault::Schema`: `meta` has another schema number, for example 1; or number 3, and tables of schema 3 are
+///   missing.
 /// - `OpenFault::Damaged`: the first table with wrong rows.
 /// - `OpenFault::Store`: a call of the database failed.
 /// - `OpenFault::Memory`: out of memory.
 ///
 /// # Guarantees
 ///
-/// `held`: a database that passes holds a legal club. `accepts_sound`: a legal club passes, unless a call fails or
-/// memory runs out. `reason_is_right`, `first`: the error is true of the rows, and a damaged table is the first wrong
-/// one.
-pub fn check_database<S: Alter>(alloc: Global, conn: &mut Connection<S>) -> Result<(), OpenFault>
+/// `held`: a database that passes holds a legal club of the version. `accepts_sound`, `standing`: a legal club passes
+/// with its version, unless a call fails or memory runs out. `reason_is_right`, `first`: the error is true of the rows,
+/// and a damaged table is the first wrong one.
+pub fn check_database<S: Alter>(
+    alloc: Global,
+    conn: &mut Connection<S>,
+) -> Result<Version, OpenFault>
     ensures reads { Reads (is_ok result) (state S.Store conn.old) (state S.Store conn.new) }
-    ensures found { HasCleanDisk (state S.Store conn.new) → OnOk result (IsOpened (state S.Store conn.old) → (s : _) ×
-        IsClub s × IsExactly (tables s) (state S.Store conn.new)) }
+    ensures served { IfOk result (λ version. IsServed version) }
+    // A connection that was just opened over only the tables of this version has exactly those of a legal club.
+    ensures found { HasCleanDisk (state S.Store conn.new) → IfOk result (λ version.
+        IsOpenedAt version (state S.Store conn.old) →
+        (s : _) × IsClubOf version s × IsExactlyClub version s (state S.Store conn.new)) }
     // The schema is equivalent to a club's, whatever `CREATE` statements made it.
-    ensures shape { OnOk result (is_of_club Current (state S.Store conn.old).now.schema ≡ true) }
-    ensures same { HasCleanDisk (state S.Store conn.new) → OnOk result (
-        IsClubSchema (state S.Store conn.old).now.schema →
-        ((state S.Store conn.old).now.schema ≡ club_schema) ×
+    ensures shape { IfOk result (λ version. is_of_club version (state S.Store conn.old).now.schema ≡ true) }
+    // If the tables of the version exist, alone or beside foreign tables, nothing was changed and their rows are those
+    // of a legal club.
+    ensures stays { HasCleanDisk (state S.Store conn.new) → IfOk result (λ version.
+        HasToldTables (state S.Store conn.old).now → HasTablesOf version (state S.Store conn.old).now.schema ×
         IsUnchanged (state S.Store conn.old) (state S.Store conn.new)) }
-    // If the tables of schema 2 exist, alone or beside foreign tables, nothing was changed and their rows are those of
-    // a legal club.
-    ensures stays { HasCleanDisk (state S.Store conn.new) → OnOk result (
-        HasTablesOf Current (state S.Store conn.old).now.schema →
-        IsUnchanged (state S.Store conn.old) (state S.Store conn.new)) }
-    ensures held { HasCleanDisk (state S.Store conn.new) → OnOk result (
-        HasTablesOf Current (state S.Store conn.old).now.schema → IsDatabase (state S.Store conn.old).now →
-        (s : _) × IsClub s × HasClub Current (state S.Store conn.new).now s) }
+    ensures held { HasCleanDisk (state S.Store conn.new) → IfOk result (λ version.
+        HasToldTables (state S.Store conn.old).now → IsDatabase (state S.Store conn.old).now →
+        (s : _) × IsClubOf version s × HasClub version (state S.Store conn.new).now s) }
     ensures reason_is_right { HasCleanDisk (state S.Store conn.new) → IfErr result (λ e.
-        HasClubTables (state S.Store conn.old).now.schema → IsRightFault Current (state S.Store conn.old).now e) }
+        HasToldTables (state S.Store conn.old).now → IsRightFault V2 (state S.Store conn.old).now e) }
     ensures first { HasCleanDisk (state S.Store conn.new) → IfErr result (λ e.
-        HasClubTables (state S.Store conn.old).now.schema → NamesFirstDamaged (state S.Store conn.old).now e) }
+        HasToldTables (state S.Store conn.old).now → NamesFirstDamaged (state S.Store conn.old).now e) }
     // A legal club, alone or beside foreign tables, is accepted.
     ensures accepts_sound { HasCleanDisk (state S.Store conn.new) → IfErr result (λ e. (s : ClubState) → IsClub s →
-        HoldsRows Current (tables s) (state S.Store conn.old).now →
-        is_of_club Current (state S.Store conn.old).now.schema ≡ true →
+        HoldsRows (version_of s) (tables s) (state S.Store conn.old).now →
+        is_of_club (version_of s) (state S.Store conn.old).now.schema ≡ true →
         (e ≡ OpenFault.Store) ⊎ (e ≡ OpenFault.Memory)) }
+    ensures standing { HasCleanDisk (state S.Store conn.new) → IfOk result (λ version. (s : ClubState) → IsClub s →
+        HoldsRows (version_of s) (tables s) (state S.Store conn.old).now → version ≡ version_of s) }
 {
-    let _register = match check_schemas(alloc, conn, Version::Current) {
-        Ok(register) => register,
-        Err(fault) => return Err(fault),
-    };
-    Ok(())
+    match check_since(alloc, conn, Version::V2) {
+        Ok(register) => Ok(register.version),
+        Err(fault) => Err(fault),
+    }
 }
 
-/// Checks that the database holds a legal club of version `oldest` or later, and returns the version and the rows that
-/// are read whole.
-/// Changes nothing. Wrong tables are reported in the order of `check_database`.
+/// Checks that the database holds a legal club of schema 1, 2 or 3, and returns the version and the rows that are read
+/// whole. Changes nothing. Wrong tables are reported in the order of `check_database`.
 ///
 /// # Errors
 ///
-/// As `check_database`; `OpenFault::Schema` for a version before `oldest`.
+/// As `check_database`, but schema 1 is accepted.
 ///
 /// # Guarantees
 ///
-/// `held`: the rows returned are those of the legal club in the database. `accepts_sound`: a legal club of an accepted
-/// version passes, unless a call fails or memory runs out.
+/// `held`: the rows returned are those of the legal club in the database. `accepts_sound`: a legal club of any version
+/// passes, unless a call fails or memory runs out.
 pub fn check_schemas<S: Alter>(
+    alloc: Global,
+    conn: &mut Connection<S>,
+) -> Result<Register, OpenFault>
+    ensures reads { Reads (is_ok result) (state S.Store conn.old) (state S.Store conn.new) }
+    ensures shape { IfOk result (λ found. is_of_club found.version (state S.Store conn.old).now.schema ≡ true) }
+    ensures found { HasCleanDisk (state S.Store conn.new) → IfOk result (λ found.
+        IsOpenedAt found.version (state S.Store conn.old) → (s : _) × IsClubOf found.version s ×
+        IsRegisterOf s found.rows × IsExactlyClub found.version s (state S.Store conn.new)) }
+    ensures rows { HasCleanDisk (state S.Store conn.new) → IfOk result (λ found. (version : _) (s : ClubState) →
+        IsClubOf version s → HoldsRows version (tables_at version s) (state S.Store conn.old).now →
+        IsRegisterOf s found.rows) }
+    // If the tables of the version exist, alone or beside foreign tables, nothing was changed, and the rows returned
+    // are those of the legal club in them.
+    ensures stays { HasCleanDisk (state S.Store conn.new) → IfOk result (λ found.
+        HasToldTables (state S.Store conn.old).now →
+        HasTablesOf found.version (state S.Store conn.old).now.schema ×
+        IsUnchanged (state S.Store conn.old) (state S.Store conn.new)) }
+    ensures held { HasCleanDisk (state S.Store conn.new) → IfOk result (λ found.
+        HasToldTables (state S.Store conn.old).now → IsDatabase (state S.Store conn.old).now →
+        (s : _) × IsClubOf found.version s × IsRegisterOf s found.rows ×
+        HasClub found.version (state S.Store conn.new).now s) }
+    ensures reason_is_right { HasCleanDisk (state S.Store conn.new) → IfErr result (λ e.
+        HasToldTables (state S.Store conn.old).now → IsRightFault V1 (state S.Store conn.old).now e) }
+    ensures first { HasCleanDisk (state S.Store conn.new) → IfErr result (λ e.
+        HasToldTables (state S.Store conn.old).now → NamesFirstDamaged (state S.Store conn.old).now e) }
+    // A legal club of any version, alone or beside foreign tables, is accepted.
+    ensures accepts_sound { HasCleanDisk (state S.Store conn.new) → IfErr result (λ e. (version : _) (s : ClubState) →
+        IsClubOf version s → HoldsRows version (tables_at version s) (state S.Store conn.old).now →
+        is_of_club version (state S.Store conn.old).now.schema ≡ true →
+        (e ≡ OpenFault.Store) ⊎ (e ≡ OpenFault.Memory)) }
+    ensures newer { HasCleanDisk (state S.Store conn.new) → IfOk result (λ found.
+        HasTablesOf V2 (state S.Store conn.old).now.schema → IsServed found.version) }
+    ensures standing { HasCleanDisk (state S.Store conn.new) → IfOk result (λ found. (version : _) (s : ClubState) →
+        IsClubOf version s → HoldsRows version (tables_at version s) (state S.Store conn.old).now →
+        found.version ≡ version) }
+{
+    match check_since(alloc, conn, Version::V1) {
+        Ok(found) => Ok(found),
+        Err(fault) => Err(fault),
+    }
+}
+
+/// As `check_schemas`, for the versions from `oldest` on, which is schema 1 or 2.
+fn check_since<S: Alter>(
     alloc: Global,
     conn: &mut Connection<S>,
     oldest: Version,
 ) -> Result<Register, OpenFault>
+    requires { schema_number oldest ≤ schema_number V2 }
     ensures reads { Reads (is_ok result) (state S.Store conn.old) (state S.Store conn.new) }
     ensures taken { IfOk result (λ found. schema_number oldest ≤ schema_number found.version) }
     ensures shape { IfOk result (λ found. is_of_club found.version (state S.Store conn.old).now.schema ≡ true) }
     ensures found { HasCleanDisk (state S.Store conn.new) → IfOk result (λ found.
-        (version : _) → IsOpenedAt version (state S.Store conn.old) → (found.version ≡ version) × ((s : _) ×
-        IsClubOf version s × IsRegisterOf s found.rows × IsExactlyClub version s (state S.Store conn.new))) }
+        IsOpenedAt found.version (state S.Store conn.old) → (s : _) × IsClubOf found.version s ×
+        IsRegisterOf s found.rows × IsExactlyClub found.version s (state S.Store conn.new)) }
     ensures rows { HasCleanDisk (state S.Store conn.new) → IfOk result (λ found. (version : _) (s : ClubState) →
         IsClubOf version s → HoldsRows version (tables_at version s) (state S.Store conn.old).now →
         IsRegisterOf s found.rows) }
-    ensures same { HasCleanDisk (state S.Store conn.new) → IfOk result (λ found.
-        IsClubSchema (state S.Store conn.old).now.schema →
-        ((state S.Store conn.old).now.schema ≡ schema_of found.version) ×
-        IsUnchanged (state S.Store conn.old) (state S.Store conn.new)) }
-    // If the tables of a version exist, alone or beside foreign tables, nothing was changed, and the rows returned are
-    // those of the legal club in them.
+    // If the tables of the version exist, alone or beside foreign tables, nothing was changed, and the rows returned
+    // are those of the legal club in them.
     ensures stays { HasCleanDisk (state S.Store conn.new) → IfOk result (λ found.
-        HasClubTables (state S.Store conn.old).now.schema →
+        HasToldTables (state S.Store conn.old).now →
         HasTablesOf found.version (state S.Store conn.old).now.schema ×
         IsUnchanged (state S.Store conn.old) (state S.Store conn.new)) }
     ensures held { HasCleanDisk (state S.Store conn.new) → IfOk result (λ found.
-        HasClubTables (state S.Store conn.old).now.schema → IsDatabase (state S.Store conn.old).now →
+        HasToldTables (state S.Store conn.old).now → IsDatabase (state S.Store conn.old).now →
         (s : _) × IsClubOf found.version s × IsRegisterOf s found.rows ×
         HasClub found.version (state S.Store conn.new).now s) }
     ensures reason_is_right { HasCleanDisk (state S.Store conn.new) → IfErr result (λ e.
-        HasClubTables (state S.Store conn.old).now.schema → IsRightFault oldest (state S.Store conn.old).now e) }
+        HasToldTables (state S.Store conn.old).now → IsRightFault oldest (state S.Store conn.old).now e) }
     ensures first { HasCleanDisk (state S.Store conn.new) → IfErr result (λ e.
-        HasClubTables (state S.Store conn.old).now.schema → NamesFirstDamaged (state S.Store conn.old).now e) }
+        HasToldTables (state S.Store conn.old).now → NamesFirstDamaged (state S.Store conn.old).now e) }
     // A legal club of an accepted version, alone or beside foreign tables, is accepted.
     ensures accepts_sound { HasCleanDisk (state S.Store conn.new) → IfErr result (λ e. (version : _) (s : ClubState) →
         IsClubOf version s → HoldsRows version (tables_at version s) (state S.Store conn.old).now →
         is_of_club version (state S.Store conn.old).now.schema ≡ true →
         schema_number oldest ≤ schema_number version → (e ≡ OpenFault.Store) ⊎ (e ≡ OpenFault.Memory)) }
     ensures newer { HasCleanDisk (state S.Store conn.new) → IfOk result (λ found.
-        HasTablesOf Current (state S.Store conn.old).now.schema → found.version ≡ Current) }
+        HasTablesOf V2 (state S.Store conn.old).now.schema → IsServed found.version) }
     ensures standing { HasCleanDisk (state S.Store conn.new) → IfOk result (λ found. (version : _) (s : ClubState) →
         IsClubOf version s → HoldsRows version (tables_at version s) (state S.Store conn.old).now →
         found.version ≡ version) }
 {
-    let found = match read_rows(alloc, conn, oldest) {
+    let RegisterRows { register, rulings } = match read_rows(alloc, conn, oldest) {
         Ok(found) => found,
         Err(fault) => return Err(fault),
     };
-    match examine_rows(alloc, conn, &found.rows) {
-        Ok(()) => Ok(found),
-        Err(fault) => Err(fault),
+    match examine_rows(alloc, conn, &register.rows) {
+        Ok(()) => {}
+        Err(fault) => return Err(named_with(rulings, fault)),
     }
+    if rulings > 0 {
+        return Err(OpenFault::Damaged(Table::Rulings));
+    }
+    Ok(register)
 }
 
 /// Checks these rows, which were read, with the moves, positions and scores, which are read here.

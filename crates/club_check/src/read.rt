@@ -1,21 +1,27 @@
 //! Reads the tables of a club and checks members, events and event rules.
 
 ghost use Rattle.std.specs.Prelude.{◌≡◌, ◌≢◌, ◌⊎◌, ℕ, pos, true, None, Some, IfSome, IfOk, IfErr, OnOk, IsTrue, List};
-ghost use Rattle.std.specs.Prelude.{[], ◌∷◌, ◌≤◌, ◌<◌, is_ok, length, map};
+ghost use Rattle.std.specs.Prelude.{[], ◌∷◌, ◌≤◌, ◌<◌, is_ok, length, map, false, if◌then◌else◌};
 ghost use Rattle.sqlite.specs.State.{HasCleanDisk, IsUnchanged};
 ghost use Rattle.sqlite.specs.Held.{state};
 ghost use Rattle.club_audit.specs.internal.Audit.{AreEvents, AreMembers, AreRules};
 ghost use Rattle.club_core.specs.Events.{Event};
 ghost use Rattle.club_core.specs.Members.{Member};
-ghost use Rattle.store_tables.specs.Placed.{HasClubTables, HasTables, HasTablesOf, HasTableAt};
+ghost use Rattle.store_tables.specs.Content.{cells};
+ghost use Rattle.store_tables.specs.Names.{tree_of};
+ghost use Rattle.store_tables.specs.Placed.{HasClubTables, HasTables, HasTablesOf, HasTableAt, club_trees};
 ghost use Rattle.store_tables.specs.Cells.{event_cells};
 ghost use Rattle.store_tables.specs.internal.Cells.{meta_cells, member_cells, event_rule_cells};
 ghost use Rattle.store_tables.specs.Reading.{Reads};
 ghost use Rattle.store_tables.specs.internal.Reading.{IsNoInput};
 ghost use Rattle.store_tables.specs.Tables.{schema_number, meta, members, events};
-ghost use Rattle.store_tables.specs.declared.names.Version.TheVariants.{First, Current};
+ghost use Rattle.store_tables.specs.declared.names.Version.TheVariants.{V1, V2, V3};
 ghost use Rattle.store_tables.specs.Tables.{standing};
 ghost use Rattle.store_tables.specs.declared.names.Table.TheVariants.{Meta, Members, Events};
+ghost use Rattle.club_audit.specs.internal.ClosingAudit.{AreClosingsAfter};
+ghost use Rattle.club_audit.specs.internal.KeyAudit.{AreKeysOf};
+ghost use Rattle.club_check.specs.Versions.{HasToldTables};
+ghost use Rattle.club_check.specs.internal.ReasonIsRight.{AreRulingsCounted, IsAssumed};
 ghost use Rattle.club_check.specs.ReasonIsRight.{IsOneMeta, HasTypes, HoldsNone};
 ghost use Rattle.club_check.specs.internal.ReasonIsRight.{IsMetaRead, ReasonIsRight};
 ghost use Rattle.club_check.specs.ReasonIsRight.{IsRightFault, NamesTable};
@@ -29,20 +35,20 @@ ghost use Rattle.club_check.specs.internal.Versions.{HasEvents};
 ghost use Rattle.club_check.specs.internal.Faults.{told};
 ghost use Rattle.store_sql.specs.internal.Read.{IsReadAs};
 ghost use Rattle.schema_match.specs.Shapes.{is_of_club};
+ghost use Rattle.schema_match.specs.internal.TableVersions.{has_version};
 
+use crate::arbiter::{count_rulings, named_with, read_closings, read_keys};
 use crate::fault::OpenFault;
 use crate::known::{GameRows, read_games};
 use crate::opening::name_untyped;
 use club_audit::{are_events, are_members, are_rules};
-use schema_match::versions_of;
+use schema_match::{Versions, versions_of};
 use sqlite::{Alter, Connection, Error, Row};
 use std::alloc::Global;
-use store_sql::{
-    ReadFault, Select, check_columns, has_event_rules, is_refused, read_all, show_all,
-};
+use store_sql::{ReadFault, Select, check_columns, has_table, is_refused, read_all, show_all};
 use store_tables::{
-    ChallengeRow, EventRow, EventRuleRow, GameTableRow, MemberRow, MetaRow, MoveRow, RowError,
-    Rows, ScoreRow, SeenRow, Table, TableRow, Version,
+    ChallengeRow, ClosingRow, EventRow, EventRuleRow, GameTableRow, KeyRow, MemberRow, MetaRow,
+    MoveRow, RowError, Rows, ScoreRow, SeenRow, Table, TableRow, Version,
 };
 
 /// The error for a failed statement: `Foreign` if the statement was rejected (a table or column is missing, or the
@@ -121,6 +127,9 @@ fn read_meta<S: Alter>(conn: &mut Connection<S>) -> Result<Option<MetaRow>, Open
         (state S.Store conn.old) (state S.Store conn.new) × (found.id ≡ pos 1))) }
     ensures none { HasCleanDisk (state S.Store conn.new) → IfOk result (λ o. o ≡ None →
         HoldsNone (state S.Store conn.old).now (λ _ content. HasTypes Table.Meta content)) }
+    ensures unshown { HasCleanDisk (state S.Store conn.new) → IfOk result (λ o. o ≡ None →
+        HasClubTables (state S.Store conn.old).now.schema → ¬ IsOneMeta (map (cells (standing Meta))
+        (club_trees (state S.Store conn.old).now (tree_of Meta)))) }
     ensures same { HasCleanDisk (state S.Store conn.new) →
         OnOk result (HasClubTables (state S.Store conn.old).now.schema → IsUnchanged (state S.Store conn.old)
         (state S.Store conn.new)) }
@@ -199,24 +208,24 @@ pub(crate) struct FileHead {
     meta: MetaRow,
 }
 
-/// Reads the schema version and the last timestamp from `meta`.
-fn read_version<S: Alter>(conn: &mut Connection<S>) -> Result<FileHead, OpenFault>
+/// Reads the schema version and the last timestamp from `meta`. The version is `assumed` if `meta` is wrong.
+fn read_version<S: Alter>(conn: &mut Connection<S>, assumed: Version) -> Result<FileHead, OpenFault>
     ensures reads { Reads (is_ok result) (state S.Store conn.old) (state S.Store conn.new) }
     ensures found { HasCleanDisk (state S.Store conn.new) → IfOk result (λ told.
-        HasClubTables (state S.Store conn.old).now.schema →
+        HasClubTables (state S.Store conn.old).now.schema → IsAssumed assumed (state S.Store conn.old) →
         IsMetaRead told.version told.meta (state S.Store conn.old) (state S.Store conn.new)) }
     ensures same { HasCleanDisk (state S.Store conn.new) → OnOk result (
         HasClubTables (state S.Store conn.old).now.schema →
         IsUnchanged (state S.Store conn.old) (state S.Store conn.new)) }
     ensures reason_is_right { HasCleanDisk (state S.Store conn.new) → IfErr result (λ e.
         HasClubTables (state S.Store conn.old).now.schema →
-        (e ≡ OpenFault.Store) ⊎ ((e ≡ OpenFault.Memory) ⊎ NamesSchema First (state S.Store conn.old).now e)) }
+        (e ≡ OpenFault.Store) ⊎ ((e ≡ OpenFault.Memory) ⊎ NamesSchema V1 (state S.Store conn.old).now e)) }
 {
     let found = match read_meta(conn) {
         Ok(Some(found)) => found,
         Ok(None) => {
             return Ok(FileHead {
-                version: Version::Current,
+                version: assumed,
                 meta: no_meta(),
             });
         }
@@ -262,10 +271,10 @@ fn check_table<T: Select, S: Alter>(conn: &mut Connection<S>, table: Table) -> R
 fn check_tables<S: Alter>(conn: &mut Connection<S>) -> Result<(), OpenFault>
     ensures reads { Reads (is_ok result) (state S.Store conn.old) (state S.Store conn.new) }
     ensures same { HasCleanDisk (state S.Store conn.new) →
-        OnOk result (HasTables First (state S.Store conn.old).now.schema → IsUnchanged (state S.Store conn.old)
+        OnOk result (HasTables V1 (state S.Store conn.old).now.schema → IsUnchanged (state S.Store conn.old)
         (state S.Store conn.new)) }
     ensures reason_is_right { HasCleanDisk (state S.Store conn.new) → IfErr result (λ e.
-        HasTables First (state S.Store conn.old).now.schema → e ≡ OpenFault.Store) }
+        HasTables V1 (state S.Store conn.old).now.schema → e ≡ OpenFault.Store) }
 {
     match check_people::<S>(conn) {
         Ok(()) => {}
@@ -277,40 +286,97 @@ fn check_tables<S: Alter>(conn: &mut Connection<S>) -> Result<(), OpenFault>
     }
 }
 
-/// Checks that the table of event rules exists exactly if the version has it.
-fn check_rules<S: Alter>(conn: &mut Connection<S>, version: Version) -> Result<(), OpenFault>
+/// Checks that the table of event rules exists, or that it does not.
+fn check_rules<S: Alter>(conn: &mut Connection<S>, wanted: bool) -> Result<(), OpenFault>
     ensures reads { Reads (is_ok result) (state S.Store conn.old) (state S.Store conn.new) }
-    ensures same { HasCleanDisk (state S.Store conn.new) → OnOk result (
-        HasClubTables (state S.Store conn.old).now.schema →
-        IsUnchanged (state S.Store conn.old) (state S.Store conn.new)) }
-    ensures version { HasCleanDisk (state S.Store conn.new) → OnOk result (
-        HasClubTables (state S.Store conn.old).now.schema →
-        HasTablesOf version (state S.Store conn.old).now.schema) }
+    ensures same { HasCleanDisk (state S.Store conn.new) →
+        OnOk result (IsUnchanged (state S.Store conn.old) (state S.Store conn.new)) }
+    ensures none { HasCleanDisk (state S.Store conn.new) → OnOk result (wanted ≡ false →
+        HasClubTables (state S.Store conn.old).now.schema → HasTablesOf V1 (state S.Store conn.old).now.schema) }
+    ensures there { HasCleanDisk (state S.Store conn.new) → OnOk result (wanted ≡ true →
+        HasClubTables (state S.Store conn.old).now.schema → HasTablesOf V2 (state S.Store conn.old).now.schema) }
     ensures reason_is_right { HasCleanDisk (state S.Store conn.new) → IfErr result (λ e. (e ≡ OpenFault.Store)
-        ⊎ ((e ≡ OpenFault.Foreign) × (¬ HasTablesOf version (state S.Store conn.old).now.schema))) }
+        ⊎ ((e ≡ OpenFault.Foreign) × (¬ HasTablesOf (if wanted then V2 else V1) (state S.Store conn.old).now.schema))) }
 {
-    let there = match has_event_rules(conn) {
+    let there = match has_table(conn, Table::EventRules) {
         Ok(there) => there,
         Err(_) => return Err(OpenFault::Store),
     };
-    let fits = match version {
-        Version::First => !there,
-        Version::Current => there,
-    };
-    if !fits {
-        return Err(OpenFault::Foreign);
+    if there == wanted {
+        Ok(())
+    } else {
+        Err(OpenFault::Foreign)
     }
-    Ok(())
+}
+
+/// Checks that a table of schema 3 exists.
+fn check_third<S: Alter>(conn: &mut Connection<S>, table: Table) -> Result<(), OpenFault>
+    ensures reads { Reads (is_ok result) (state S.Store conn.old) (state S.Store conn.new) }
+    ensures same { HasCleanDisk (state S.Store conn.new) →
+        OnOk result (IsUnchanged (state S.Store conn.old) (state S.Store conn.new)) }
+    ensures reason_is_right { HasCleanDisk (state S.Store conn.new) → IfErr result (λ e. (e ≡ OpenFault.Store)
+        ⊎ ((e ≡ OpenFault.Schema (pos 3)) × (¬ HasTableAt (state S.Store conn.old).now.schema table))) }
+{
+    match has_table(conn, table) {
+        Ok(true) => Ok(()),
+        Ok(false) => Err(OpenFault::Schema(Version::V3.number())),
+        Err(_) => Err(OpenFault::Store),
+    }
+}
+
+/// Checks that the tables exist that schema 3 has and schema 1 has not.
+fn check_thirds<S: Alter>(conn: &mut Connection<S>) -> Result<(), OpenFault>
+    ensures reads { Reads (is_ok result) (state S.Store conn.old) (state S.Store conn.new) }
+    ensures same { HasCleanDisk (state S.Store conn.new) →
+        OnOk result (IsUnchanged (state S.Store conn.old) (state S.Store conn.new)) }
+    ensures reason_is_right { HasCleanDisk (state S.Store conn.new) → IfErr result (λ e. (e ≡ OpenFault.Store)
+        ⊎ ((e ≡ OpenFault.Schema (pos 3)) × (¬ HasTables V3 (state S.Store conn.old).now.schema))) }
+{
+    match check_third(conn, Table::EventRules) {
+        Ok(()) => {}
+        Err(fault) => return Err(fault),
+    }
+    match check_third(conn, Table::Keys) {
+        Ok(()) => {}
+        Err(fault) => return Err(fault),
+    }
+    match check_third(conn, Table::Rulings) {
+        Ok(()) => {}
+        Err(fault) => return Err(fault),
+    }
+    match check_third(conn, Table::Closings) {
+        Ok(()) => Ok(()),
+        Err(fault) => Err(fault),
+    }
+}
+
+/// Checks that the tables exist that tell the version from those before it, and none that schema 1 excludes.
+fn check_version<S: Alter>(conn: &mut Connection<S>, version: Version) -> Result<(), OpenFault>
+    ensures reads { Reads (is_ok result) (state S.Store conn.old) (state S.Store conn.new) }
+    ensures same { HasCleanDisk (state S.Store conn.new) →
+        OnOk result (IsUnchanged (state S.Store conn.old) (state S.Store conn.new)) }
+    ensures version { HasCleanDisk (state S.Store conn.new) → OnOk result (version ≢ V3 →
+        HasClubTables (state S.Store conn.old).now.schema →
+        HasTablesOf version (state S.Store conn.old).now.schema) }
+    ensures reason_is_right { HasCleanDisk (state S.Store conn.new) → IfErr result (λ e. (e ≡ OpenFault.Store)
+        ⊎ (((e ≡ OpenFault.Foreign) × (¬ HasTablesOf version (state S.Store conn.old).now.schema))
+        ⊎ ((version ≡ V3) × (e ≡ OpenFault.Schema (pos 3)) × (¬ HasTables V3 (state S.Store conn.old).now.schema)))) }
+{
+    match version {
+        Version::V1 => check_rules(conn, false),
+        Version::V2 => check_rules(conn, true),
+        Version::V3 => check_thirds(conn),
+    }
 }
 
 /// Checks that the tables of members, events, challenges and games exist.
 fn check_people<S: Alter>(conn: &mut Connection<S>) -> Result<(), OpenFault>
     ensures reads { Reads (is_ok result) (state S.Store conn.old) (state S.Store conn.new) }
     ensures same { HasCleanDisk (state S.Store conn.new) →
-        OnOk result (HasTables First (state S.Store conn.old).now.schema → IsUnchanged (state S.Store conn.old)
+        OnOk result (HasTables V1 (state S.Store conn.old).now.schema → IsUnchanged (state S.Store conn.old)
         (state S.Store conn.new)) }
     ensures reason_is_right { HasCleanDisk (state S.Store conn.new) → IfErr result (λ e.
-        HasTables First (state S.Store conn.old).now.schema → e ≡ OpenFault.Store) }
+        HasTables V1 (state S.Store conn.old).now.schema → e ≡ OpenFault.Store) }
 {
     match check_table::<MemberRow, S>(conn, Table::Members) {
         Ok(()) => {}
@@ -334,10 +400,10 @@ fn check_people<S: Alter>(conn: &mut Connection<S>) -> Result<(), OpenFault>
 fn check_play<S: Alter>(conn: &mut Connection<S>) -> Result<(), OpenFault>
     ensures reads { Reads (is_ok result) (state S.Store conn.old) (state S.Store conn.new) }
     ensures same { HasCleanDisk (state S.Store conn.new) →
-        OnOk result (HasTables First (state S.Store conn.old).now.schema → IsUnchanged (state S.Store conn.old)
+        OnOk result (HasTables V1 (state S.Store conn.old).now.schema → IsUnchanged (state S.Store conn.old)
         (state S.Store conn.new)) }
     ensures reason_is_right { HasCleanDisk (state S.Store conn.new) → IfErr result (λ e.
-        HasTables First (state S.Store conn.old).now.schema → e ≡ OpenFault.Store) }
+        HasTables V1 (state S.Store conn.old).now.schema → e ≡ OpenFault.Store) }
 {
     match check_table::<MoveRow, S>(conn, Table::Moves) {
         Ok(()) => {}
@@ -405,12 +471,14 @@ fn read_rules<S: Alter>(
         TellsEvents events.now (state S.Store conn.old).now →
         NamesWrong Table.EventRules (state S.Store conn.old).now e) }
 {
-    let rules = match version {
-        Version::First => return undeclared(alloc, events),
-        Version::Current => match read::<EventRuleRow, S>(alloc, conn, Table::EventRules) {
-            Ok(rules) => rules,
-            Err(fault) => return Err(fault),
-        },
+    match version {
+        Version::V1 => return undeclared(alloc, events),
+        Version::V2 => {}
+        Version::V3 => {}
+    }
+    let rules = match read::<EventRuleRow, S>(alloc, conn, Table::EventRules) {
+        Ok(rules) => rules,
+        Err(fault) => return Err(fault),
     };
     if !are_rules(&rules, events.len()) {
         return Err(OpenFault::Damaged(Table::EventRules));
@@ -423,32 +491,47 @@ fn read_rules<S: Alter>(
 pub struct Register {
     /// The version of the schema.
     pub version: Version,
-    /// All rows except those of moves, positions and scores. For schema 1, `event_rules` are those that an upgrade
-    /// writes.
+    /// All rows except those of rulings, moves, positions and scores. For schema 1, `event_rules` are those that an
+    /// upgrade writes.
     pub rows: Rows,
 }
 
-/// Reads `meta` and checks that the version is `oldest` or later and that all its tables exist.
-fn read_head<S: Alter>(conn: &mut Connection<S>, oldest: Version) -> Result<FileHead, OpenFault>
+/// A register, and the number of rulings.
+#[derive(Drop)]
+pub(crate) struct RegisterRows {
+    pub register: Register,
+    pub rulings: usize,
+}
+
+/// Reads `meta` and checks that the version is `oldest` or later and that all its tables exist. The version is
+/// `assumed` if `meta` is wrong.
+fn read_head<S: Alter>(
+    conn: &mut Connection<S>,
+    oldest: Version,
+    assumed: Version,
+) -> Result<FileHead, OpenFault>
+    requires { schema_number oldest ≤ schema_number V2 }
     ensures reads { Reads (is_ok result) (state S.Store conn.old) (state S.Store conn.new) }
     ensures found { HasCleanDisk (state S.Store conn.new) → IfOk result (λ told.
-        HasClubTables (state S.Store conn.old).now.schema →
-        (HasTablesOf told.version (state S.Store conn.old).now.schema) ×
+        HasClubTables (state S.Store conn.old).now.schema → IsAssumed assumed (state S.Store conn.old) →
+        (told.version ≢ V3 → HasTablesOf told.version (state S.Store conn.old).now.schema) ×
         IsMetaRead told.version told.meta (state S.Store conn.old) (state S.Store conn.new)) }
     ensures same { HasCleanDisk (state S.Store conn.new) → OnOk result (
         HasClubTables (state S.Store conn.old).now.schema →
         IsUnchanged (state S.Store conn.old) (state S.Store conn.new)) }
     ensures taken { IfOk result (λ told. schema_number oldest ≤ schema_number told.version) }
     ensures reason_is_right { HasCleanDisk (state S.Store conn.new) → IfErr result (λ e.
-        HasClubTables (state S.Store conn.old).now.schema → IsRightFault oldest (state S.Store conn.old).now e) }
+        HasToldTables (state S.Store conn.old).now → IsAssumed assumed (state S.Store conn.old) →
+        IsRightFault oldest (state S.Store conn.old).now e) }
     ensures undamaged { HasCleanDisk (state S.Store conn.new) → IfErr result (λ e.
-        HasClubTables (state S.Store conn.old).now.schema → (t : Table) → e ≢ OpenFault.Damaged t) }
+        HasClubTables (state S.Store conn.old).now.schema → IsAssumed assumed (state S.Store conn.old) →
+        (t : Table) → e ≢ OpenFault.Damaged t) }
 {
-    let told = match read_version(conn) {
+    let told = match read_version(conn, assumed) {
         Ok(told) => told,
         Err(fault) => return Err(fault),
     };
-    match check_rules(conn, told.version) {
+    match check_version(conn, told.version) {
         Ok(()) => {}
         Err(fault) => return Err(fault),
     }
@@ -462,6 +545,17 @@ fn read_head<S: Alter>(conn: &mut Connection<S>, oldest: Version) -> Result<File
     }
 }
 
+/// The version without a schema number in `meta`: schema 3 if all its tables exist, otherwise schema 2.
+fn assumed(shapes: &Versions) -> Version
+    ensures { result ≡ if has_version shapes.now V3 then V3 else V2 }
+{
+    if shapes.has(Version::V3) {
+        Version::V3
+    } else {
+        Version::V2
+    }
+}
+
 /// As `read_head`; also checks that the schema is equivalent to that of the version, whatever `CREATE` statements made
 /// it.
 /// An unaccepted schema number is reported before a schema that differs.
@@ -470,26 +564,30 @@ fn read_shaped<S: Alter>(
     conn: &mut Connection<S>,
     oldest: Version,
 ) -> Result<FileHead, OpenFault>
+    requires { schema_number oldest ≤ schema_number V2 }
     ensures reads { Reads (is_ok result) (state S.Store conn.old) (state S.Store conn.new) }
     ensures shape { IfOk result (λ told. is_of_club told.version (state S.Store conn.old).now.schema ≡ true) }
     ensures found { HasCleanDisk (state S.Store conn.new) → IfOk result (λ told.
-        HasClubTables (state S.Store conn.old).now.schema →
+        HasToldTables (state S.Store conn.old).now →
         (HasTablesOf told.version (state S.Store conn.old).now.schema) ×
         IsMetaRead told.version told.meta (state S.Store conn.old) (state S.Store conn.new)) }
+    ensures stand { HasCleanDisk (state S.Store conn.new) → IfOk result (λ told.
+        HasClubTables (state S.Store conn.old).now.schema → told.version ≢ V3 →
+        HasTablesOf told.version (state S.Store conn.old).now.schema) }
     ensures same { HasCleanDisk (state S.Store conn.new) → OnOk result (
-        HasClubTables (state S.Store conn.old).now.schema →
+        HasToldTables (state S.Store conn.old).now →
         IsUnchanged (state S.Store conn.old) (state S.Store conn.new)) }
     ensures taken { IfOk result (λ told. schema_number oldest ≤ schema_number told.version) }
     ensures reason_is_right { HasCleanDisk (state S.Store conn.new) → IfErr result (λ e.
-        HasClubTables (state S.Store conn.old).now.schema → IsRightFault oldest (state S.Store conn.old).now e) }
+        HasToldTables (state S.Store conn.old).now → IsRightFault oldest (state S.Store conn.old).now e) }
     ensures undamaged { HasCleanDisk (state S.Store conn.new) → IfErr result (λ e.
-        HasClubTables (state S.Store conn.old).now.schema → (t : Table) → e ≢ OpenFault.Damaged t) }
+        HasToldTables (state S.Store conn.old).now → (t : Table) → e ≢ OpenFault.Damaged t) }
 {
     let shapes = match versions_of(alloc, conn) {
         Ok(shapes) => shapes,
         Err(_) => return Err(OpenFault::Memory),
     };
-    let told = match read_head(conn, oldest) {
+    let told = match read_head(conn, oldest, assumed(&shapes)) {
         Ok(told) => told,
         Err(fault) => return Err(fault),
     };
@@ -501,17 +599,19 @@ fn read_shaped<S: Alter>(
     }
 }
 
-/// The version, `meta`, members, events and event rules of a club.
+/// The version, `meta`, members, keys, events, event rules and closings of a club.
 #[derive(Drop)]
 pub(crate) struct MembersAndEvents {
     pub version: Version,
     pub meta: MetaRow,
     pub members: Vec<MemberRow>,
+    pub keys: Vec<KeyRow>,
     pub events: Vec<EventRow>,
     pub event_rules: Vec<EventRuleRow>,
+    pub closings: Vec<ClosingRow>,
 }
 
-/// Reads the version, `meta`, members, events and event rules.
+/// Reads the version, `meta`, members, keys, events, event rules and closings.
 /// The schema is checked before any row is read. Each table is checked before the next is read, so that the first wrong
 /// table is reported.
 fn read_people<S: Alter>(
@@ -519,19 +619,27 @@ fn read_people<S: Alter>(
     conn: &mut Connection<S>,
     oldest: Version,
 ) -> Result<MembersAndEvents, OpenFault>
+    requires { schema_number oldest ≤ schema_number V2 }
     ensures reads { Reads (is_ok result) (state S.Store conn.old) (state S.Store conn.new) }
     ensures rows { HasCleanDisk (state S.Store conn.new) → IfOk result (λ people.
-        HasClubTables (state S.Store conn.old).now.schema →
+        HasToldTables (state S.Store conn.old).now →
         ArePeopleRead people (state S.Store conn.old) (state S.Store conn.new)) }
+    ensures stand { HasCleanDisk (state S.Store conn.new) → IfOk result (λ people.
+        HasClubTables (state S.Store conn.old).now.schema → people.version ≢ V3 →
+        HasTablesOf people.version (state S.Store conn.old).now.schema) }
     ensures shape { IfOk result (λ people. is_of_club people.version (state S.Store conn.old).now.schema ≡ true) }
     ensures taken { IfOk result (λ people. schema_number oldest ≤ schema_number people.version) }
     ensures members { IfOk result (λ people. (ms : List Member) × AreMembers ms people.members.items) }
     ensures events { IfOk result (λ people. (es : List Event) × AreEvents es people.events.items) }
+    ensures keys { IfOk result (λ people. (keyed : List Member) × AreMembers keyed people.members.items ×
+        AreKeysOf keyed people.keys.items) }
     ensures rules { IfOk result (λ people. AreRules people.event_rules.items (length people.events.items)) }
+    ensures closings { IfOk result (λ people.
+        AreClosingsAfter (length people.events.items) 0 people.closings.items) }
     ensures reason_is_right { HasCleanDisk (state S.Store conn.new) → IfErr result (λ e.
-        HasClubTables (state S.Store conn.old).now.schema → IsRightFault oldest (state S.Store conn.old).now e) }
+        HasToldTables (state S.Store conn.old).now → IsRightFault oldest (state S.Store conn.old).now e) }
     ensures first { HasCleanDisk (state S.Store conn.new) → IfErr result (λ e.
-        HasClubTables (state S.Store conn.old).now.schema → NamesFirstDamaged (state S.Store conn.old).now e) }
+        HasToldTables (state S.Store conn.old).now → NamesFirstDamaged (state S.Store conn.old).now e) }
 {
     let FileHead { version, meta } = match read_shaped(alloc, conn, oldest) {
         Ok(told) => told,
@@ -541,54 +649,82 @@ fn read_people<S: Alter>(
         Ok(members) => members,
         Err(fault) => return Err(fault),
     };
+    let keys = match read_keys(alloc, conn, version, &members) {
+        Ok(keys) => keys,
+        Err(fault) => return Err(fault),
+    };
     let events = match read_events(alloc, conn) {
         Ok(events) => events,
         Err(fault) => return Err(fault),
     };
-    match read_rules(alloc, conn, version, &events) {
-        Ok(event_rules) => Ok(MembersAndEvents {
+    let event_rules = match read_rules(alloc, conn, version, &events) {
+        Ok(event_rules) => event_rules,
+        Err(fault) => return Err(fault),
+    };
+    match read_closings(alloc, conn, version, &events) {
+        Ok(closings) => Ok(MembersAndEvents {
             version,
             meta,
             members,
+            keys,
             events,
             event_rules,
+            closings,
         }),
         Err(fault) => Err(fault),
     }
 }
 
-/// Reads all rows except those of moves, positions and scores.
+/// Reads all rows except those of moves, positions and scores, and counts the rulings.
 /// The first wrong table is reported; if a row of games has a value of the wrong type, challenges and moves are checked
 /// before games are reported.
 pub(crate) fn read_rows<S: Alter>(
     alloc: Global,
     conn: &mut Connection<S>,
     oldest: Version,
-) -> Result<Register, OpenFault>
+) -> Result<RegisterRows, OpenFault>
+    requires { schema_number oldest ≤ schema_number V2 }
     ensures reads { Reads (is_ok result) (state S.Store conn.old) (state S.Store conn.new) }
     ensures rows { HasCleanDisk (state S.Store conn.new) → IfOk result (λ found.
-        HasClubTables (state S.Store conn.old).now.schema →
-        (HasTablesOf found.version (state S.Store conn.old).now.schema) ×
-        AreRead found.version found.rows (state S.Store conn.old) (state S.Store conn.new)) }
-    ensures shape { IfOk result (λ found. is_of_club found.version (state S.Store conn.old).now.schema ≡ true) }
-    ensures taken { IfOk result (λ found. schema_number oldest ≤ schema_number found.version) }
-    ensures members { IfOk result (λ found. (ms : List Member) × AreMembers ms found.rows.members.items) }
-    ensures events { IfOk result (λ found. (es : List Event) × AreEvents es found.rows.events.items) }
-    ensures rules { IfOk result (λ found. AreRules found.rows.event_rules.items
-        (length found.rows.events.items)) }
+        HasToldTables (state S.Store conn.old).now →
+        (HasTablesOf found.register.version (state S.Store conn.old).now.schema) ×
+        AreRead found.register.version found.register.rows (state S.Store conn.old) (state S.Store conn.new)) }
+    ensures stand { HasCleanDisk (state S.Store conn.new) → IfOk result (λ found.
+        HasClubTables (state S.Store conn.old).now.schema → found.register.version ≢ V3 →
+        HasTablesOf found.register.version (state S.Store conn.old).now.schema) }
+    ensures shape { IfOk result (λ found.
+        is_of_club found.register.version (state S.Store conn.old).now.schema ≡ true) }
+    ensures taken { IfOk result (λ found. schema_number oldest ≤ schema_number found.register.version) }
+    ensures members { IfOk result (λ found. (ms : List Member) × AreMembers ms found.register.rows.members.items) }
+    ensures events { IfOk result (λ found. (es : List Event) × AreEvents es found.register.rows.events.items) }
+    ensures keys { IfOk result (λ found. (keyed : List Member) ×
+        AreMembers keyed found.register.rows.members.items × AreKeysOf keyed found.register.rows.keys.items) }
+    ensures rules { IfOk result (λ found. AreRules found.register.rows.event_rules.items
+        (length found.register.rows.events.items)) }
+    ensures closings { IfOk result (λ found. AreClosingsAfter (length found.register.rows.events.items) 0
+        found.register.rows.closings.items) }
+    ensures rulings { HasCleanDisk (state S.Store conn.new) → IfOk result (λ found.
+        HasToldTables (state S.Store conn.old).now →
+        AreRulingsCounted found.register.version found.rulings (state S.Store conn.old) (state S.Store conn.new)) }
     ensures reason_is_right { HasCleanDisk (state S.Store conn.new) → IfErr result (λ e.
-        HasClubTables (state S.Store conn.old).now.schema → IsRightFault oldest (state S.Store conn.old).now e) }
+        HasToldTables (state S.Store conn.old).now → IsRightFault oldest (state S.Store conn.old).now e) }
     ensures first { HasCleanDisk (state S.Store conn.new) → IfErr result (λ e.
-        HasClubTables (state S.Store conn.old).now.schema → NamesFirstDamaged (state S.Store conn.old).now e) }
+        HasToldTables (state S.Store conn.old).now → NamesFirstDamaged (state S.Store conn.old).now e) }
 {
     let MembersAndEvents {
         version,
         meta,
         members,
+        keys,
         events,
         event_rules,
+        closings,
     } = match read_people(alloc, conn, oldest) {
         Ok(people) => people,
+        Err(fault) => return Err(fault),
+    };
+    let rulings = match count_rulings(alloc, conn, version) {
+        Ok(rulings) => rulings,
         Err(fault) => return Err(fault),
     };
     let challenges = match read::<ChallengeRow, S>(alloc, conn, Table::Challenges) {
@@ -606,14 +742,18 @@ pub(crate) fn read_rows<S: Alter>(
     let rows = Rows {
         meta,
         members,
+        keys,
         events,
         event_rules,
+        closings,
         challenges,
         games,
     };
-    if are_typed {
-        Ok(Register { version, rows })
-    } else {
-        Err(name_untyped(alloc, conn, rows, judged))
+    if !are_typed {
+        return Err(named_with(rulings, name_untyped(alloc, conn, rows, judged)));
     }
+    Ok(RegisterRows {
+        register: Register { version, rows },
+        rulings,
+    })
 }

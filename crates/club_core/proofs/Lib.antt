@@ -1,4 +1,5 @@
 pub mod Finds
+pub mod KeyLemmas
 pub mod Legals
 pub mod Offered
 pub mod Played

@@ -1,4 +1,5 @@
 -- What is proved of games of the club, for the proofs of crates above.
+pub use Rattle.club_core.proofs.KeyLemmas.{last_key-at}
 pub use Rattle.club_core.proofs.Legals.{AreRules, NoneHolds, allowed-in_time, allowed-running, are_rules}
 pub use Rattle.club_core.proofs.Legals.{checked-legal, legal-ended, legal-offered, legal-played, no-rule-end}
 pub use Rattle.club_core.proofs.Legals.{none-holds, not-some, running-alone}

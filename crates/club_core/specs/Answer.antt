@@ -1,5 +1,5 @@
 -- Maps the values of the code to those of the specification: answers, members, events and requests.
-use Rattle.std.specs.Prelude.{true, string_bytes}
+use Rattle.std.specs.Prelude.{true, None, string_bytes}
 use Rattle.club_requests.specs.declared.answers.MoveAnswer.{MoveAnswer}
 use Rattle.club_requests.specs.declared.answers.Answer.{Answer}
 use Rattle.club_requests.specs.declared.answers.Answer.TheVariants as answer
@@ -18,13 +18,15 @@ use Rattle.club_requests.specs.declared.requests.Who.TheVariants as given_who_is
 use Rattle.club_requests.specs.Outcome.{Reply, MoveReply, member_added, event_added, game_seated, moved, draw_offered}
 use Rattle.club_requests.specs.Outcome.{game_ended, games_swept, challenge_opened, challenge_withdrawn}
 use Rattle.club_requests.specs.Outcome.{challenge_refused}
-use Rattle.club_requests.specs.Outcome.{challenge_accepted, Outcome, accepted, repeated, refused, map_outcome}
+use Rattle.club_requests.specs.Outcome.{challenge_accepted, key_given, event_closed, Outcome, accepted, repeated}
+use Rattle.club_requests.specs.Outcome.{refused, map_outcome}
 use Rattle.club_core.specs.Members.{Member}
 use Rattle.club_core.specs.Events.{Event}
 use Rattle.club_core.specs.Imports.{Import}
 use Rattle.club_core.specs.Step.{GameCommand, move, offer_draw, accept_draw, resign, claim_time, declare}
 use Rattle.club_core.specs.State.{Command, add_member, add_event, seat, import_record, on_game, sweep, open_challenge}
-use Rattle.club_core.specs.State.{withdraw_challenge, answer_challenge, Who, officer, key_holder, Request}
+use Rattle.club_core.specs.State.{withdraw_challenge, answer_challenge, new_key, close_event, Who, officer, key_holder}
+use Rattle.club_core.specs.State.{Request}
 
 -- the reply to a move, with its texts as bytes
 abbrev pub move_reply_of : MoveAnswer → MoveReply
@@ -44,6 +46,8 @@ reply_of (answer.ChallengeOpened number) = challenge_opened number
 reply_of (answer.ChallengeWithdrawn number) = challenge_withdrawn number
 reply_of (answer.ChallengeRefused number) = challenge_refused number
 reply_of (answer.ChallengeAccepted number game) = challenge_accepted number game
+reply_of (answer.KeyGiven number) = key_given number
+reply_of answer.EventClosed = event_closed
 
 -- the outcome of a command, without the new state
 abbrev pub outcome_of : given_outcome.Outcome → Outcome (Unit {0})
@@ -62,6 +66,7 @@ added_event e =
       name = string_bytes e.name;
       game = e.game;
       terms = record { budget = e.budget; increment = e.increment; declares = true };
+      closed = None;
     }
 
 -- the caller of a command, with the key as bytes
@@ -103,6 +108,8 @@ command_of given_is.Sweep = sweep
 command_of (given_is.Challenge c) = open_challenge c.number (string_bytes c.event) (string_bytes c.other) c.first
 command_of (given_is.Withdraw c) = withdraw_challenge c.number
 command_of (given_is.Answer c) = answer_challenge (string_bytes c.challenger) c.number c.accept
+command_of (given_is.NewKey c) = new_key (string_bytes c.name) c.number (string_bytes c.key)
+command_of (given_is.CloseEvent c) = close_event (string_bytes c.event)
 
 -- a request, with its texts as bytes
 abbrev pub request_of : given_request.Request → Request

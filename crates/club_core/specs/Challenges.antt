@@ -8,13 +8,13 @@ use Rattle.club_core.specs.declared.challenges.ChallengeState.TheVariants.{Open,
 use Rattle.club_requests.specs.declared.refusals.Refusal.{Refusal}
 use Rattle.club_requests.specs.declared.refusals.Refusal.TheVariants.{UnknownEvent, UnknownChallenge, Conflict}
 use Rattle.club_requests.specs.declared.refusals.Refusal.TheVariants.{BadValue}
-use Rattle.club_requests.specs.declared.refusals.Refusal.TheVariants.{Full}
+use Rattle.club_requests.specs.declared.refusals.Refusal.TheVariants.{Full, EventClosed}
 use Rattle.club_requests.specs.Limits.{most_games, is_challenge_number}
 use Rattle.club_requests.specs.Outcome.{Reply, challenge_opened, challenge_withdrawn, challenge_refused}
 use Rattle.club_requests.specs.Outcome.{challenge_accepted}
 use Rattle.club_requests.specs.Outcome.{Outcome, accepted, refused, first_refusal, unless, unless_repeat}
 use Rattle.club_core.specs.Members.{Member, find_id}
-use Rattle.club_core.specs.Events.{Event, has_event_name}
+use Rattle.club_core.specs.Events.{Event, has_event_name, is_closed}
 use Rattle.club_core.specs.declared.seats.Pairing.{Pairing}
 use Rattle.club_core.specs.Seats.{has_member_name, is_id, are_distinct}
 
@@ -69,12 +69,13 @@ repeat_of_opening event other first None = None
 repeat_of_opening event other first (Some c) =
     if asks_same event other first c then Some (challenge_opened c.number) else None
 
-module _ (caller number : ℕ) (other : Option ℕ) (under : Option Challenge) where
+module _ (caller number : ℕ) (other : Option ℕ) (closed : Bool) (under : Option Challenge) where
   -- the refusals of a new challenge with their tests, in the order in which they apply
   abbrev pub opening_tests : List (Bool × Refusal)
   opening_tests =
       (is_some under, Conflict)
       ∷ (not (is_challenge_number number && are_distinct (Some caller) other), BadValue)
+      ∷ (closed, EventClosed)
       ∷ []
 
   -- the first refusal of a new challenge that applies, if any
@@ -91,18 +92,18 @@ opens caller number event (Some other) first =
 
 -- the transition after the event and the opponent are looked up by name; `under` is the stored challenge with this
 -- number
-abbrev pub opening_found : ℕ → ℕ → Option ℕ → Option ℕ → Bool → Option Challenge → Outcome Challenge
-opening_found caller number None other first under = refused UnknownEvent
-opening_found caller number (Some event) other first under =
+abbrev pub opening_found : List Event → ℕ → ℕ → Option ℕ → Option ℕ → Bool → Option Challenge → Outcome Challenge
+opening_found events caller number None other first under = refused UnknownEvent
+opening_found events caller number (Some event) other first under =
     unless_repeat (repeat_of_opening event other first under)
-    (unless (opening_refusal caller number other under)
+    (unless (opening_refusal caller number other (is_closed events event) under)
     (opens caller number event other first))
 
 -- a member challenges another to a game of an event; `first` is true if the challenger moves first
 abbrev pub opening_step : List Member → List Event → Option Challenge →
     ℕ → ℕ → List ℕ → List ℕ → Bool → Outcome Challenge
 opening_step members events under caller number event other first =
-    opening_found caller number
+    opening_found events caller number
     (find_id (has_event_name event) events)
     (find_id (has_member_name other) members)
     first under
@@ -139,12 +140,13 @@ repeat_of_answer number Refused false = Some (challenge_refused number)
 repeat_of_answer number (Accepted game) true = Some (challenge_accepted number game)
 repeat_of_answer number (Accepted game) false = None
 
-module _ (standing : ChallengeState) (games : ℕ) (accept : Bool) where
+module _ (standing : ChallengeState) (games : ℕ) (closed accept : Bool) where
   -- the refusals of an answer to a challenge with their tests, in the order in which they apply
   abbrev pub answer_tests : List (Bool × Refusal)
   answer_tests =
       (not (is_open standing), Conflict)
       ∷ (accept && nat_le most_games games, Full)
+      ∷ (accept && closed, EventClosed)
       ∷ []
 
   -- the first refusal of an answer to a challenge that applies, if any
@@ -157,12 +159,12 @@ answers c games false = accepted (standing_as c Refused) (challenge_refused c.nu
 answers c games true = accepted (standing_as c (Accepted (games + 1))) (challenge_accepted c.number (games + 1))
 
 -- the challenged member answers the challenge that was looked up; `games` is the number of games
-abbrev pub answer_step : Option Challenge → ℕ → ℕ → Bool → Outcome Challenge
-answer_step None games caller accept = refused UnknownChallenge
-answer_step (Some c) games caller accept =
+abbrev pub answer_step : List Event → Option Challenge → ℕ → ℕ → Bool → Outcome Challenge
+answer_step events None games caller accept = refused UnknownChallenge
+answer_step events (Some c) games caller accept =
     if c.other == caller
     then
     unless_repeat (repeat_of_answer c.number c.standing accept)
-    (unless (answer_refusal c.standing games accept)
+    (unless (answer_refusal c.standing games (is_closed events c.event) accept)
     (answers c games accept))
     else refused UnknownChallenge

@@ -1,6 +1,6 @@
 -- Events, and the transition that adds one.
-use Rattle.std.specs.Prelude.{ℕ, ◌+◌, List, [], ◌∷◌, ◌++◌, length, Option, Bool, true, false, not, ◌&&◌, nat_le, ◌==◌}
-use Rattle.std.specs.Prelude.{if◌then◌else◌}
+use Rattle.std.specs.Prelude.{ℕ, zero, suc, ◌+◌, List, [], ◌∷◌, ◌++◌, length, Option, None, Some, is_some, Bool, true}
+use Rattle.std.specs.Prelude.{false, not, ◌&&◌, nat_le, ◌==◌, if◌then◌else◌, slice_get}
 use Rattle.std.specs.Str.{bytes_eq}
 use Rattle.std.specs.Option.{option_map}
 use Rattle.std.specs.List.{list_any}
@@ -18,11 +18,22 @@ pub record Terms : Type 0 where
   pub increment : ℕ
   pub declares : Bool
 
--- an event: games of one kind under the same terms
+-- an event: games of one kind under the same terms, and the timestamp at which it was closed to challenges, if it was
 pub record Event : Type 0 where
   pub name : List ℕ
   pub game : GameKind
   pub terms : Terms
+  pub closed : Option ℕ
+
+-- an event that was looked up exists and is closed to challenges
+abbrev pub has_closed : Option Event → Bool
+has_closed None = false
+has_closed (Some e) = is_some e.closed
+
+-- the event with this id, which counts from 1, is closed to challenges
+abbrev pub is_closed : List Event → ℕ → Bool
+is_closed events zero = false
+is_closed events (suc n) = has_closed (slice_get events n)
 
 -- equality of kinds of games
 abbrev pub same_game : GameKind → GameKind → Bool
@@ -54,9 +65,9 @@ event_kind (e ∷ es) name = if has_event_name name e then e.game else event_kin
 abbrev pub event_declares : List Event → List ℕ → Bool
 event_declares es name = list_any (λ e. has_event_name name e && e.terms.declares) es
 
--- an event as it is added: it allows declarations, whatever its game
+-- an event as it is added: it allows declarations, whatever its game, and is open to challenges
 abbrev pub declaring : Event → Event
-declaring given = record given { terms = record given.terms { declares = true } }
+declaring given = record given { terms = record given.terms { declares = true }; closed = None }
 
 module _ (events : List Event) (given : Event) where
   -- the reply if the same event already exists

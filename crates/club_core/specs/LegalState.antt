@@ -1,5 +1,5 @@
 -- A legal state of the club: its games are legal, values and counts are within limits, and all references exist.
-use Rattle.std.specs.Prelude.{◌≡◌, ◌≢◌, ◌+◌, ◌<◌, ◌≤◌, ℕ, List, length, Option, Some, IsTrue}
+use Rattle.std.specs.Prelude.{◌≡◌, ◌≢◌, ◌+◌, ◌<◌, ◌≤◌, ℕ, List, [], length, Option, Some, None, false, IsTrue}
 use Rattle.std.specs.Prelude.{IsSome, IfSome, slice_get}
 use Rattle.club_rules.specs.declared.names.GameKind.{GameKind}
 use Rattle.club_rules.specs.declared.names.GameKind.TheVariants.{Draughts, Shogi}
@@ -9,8 +9,8 @@ use Rattle.club_core.specs.declared.challenges.Challenge.{Challenge}
 use Rattle.club_core.specs.declared.challenges.ChallengeState.TheVariants.{Accepted}
 use Rattle.club_requests.specs.declared.outside_end.OutsideEnd.TheVariants.{Time}
 use Rattle.club_requests.specs.Limits.{last_moment, most_members, most_events, most_games, is_name, is_member_key}
-use Rattle.club_requests.specs.Limits.{is_challenge_number, is_budget, is_increment}
-use Rattle.club_core.specs.Members.{Member}
+use Rattle.club_requests.specs.Limits.{is_challenge_number, is_budget, is_increment, most_keys}
+use Rattle.club_core.specs.Members.{Member, keys_of}
 use Rattle.club_core.specs.Events.{Event}
 use Rattle.club_core.specs.Challenges.{key_of_challenge, pairing_for}
 use Rattle.club_core.specs.Game.{Game, clocks_of, left_of, turn_of}
@@ -32,10 +32,18 @@ HaveUniqueKeysIfAny {A} {B} part xs =
     (i j : ℕ) (x y : A) (b : B) → slice_get xs i ≡ Some x → slice_get xs j ≡ Some y → part x ≡ Some b → part y ≡ Some b
     → i ≡ j
 
--- the name and the key of a member are valid
+-- the name and the keys of a member are valid
 pub record IsLegalMember (m : Member) : Type 0 where
   pub name : IsTrue (is_name m.name)
   pub key : IsTrue (is_member_key m.key)
+  pub later : Each (λ k. IsTrue (is_member_key k)) m.later
+  pub later_count : length m.later ≤ most_keys
+
+-- no two keys are the same, of all that the members have or had
+abbrev pub HaveUniqueMemberKeys : List Member → Type 0
+HaveUniqueMemberKeys members =
+    (i j a b : ℕ) (m n : Member) (k : List ℕ) → slice_get members i ≡ Some m → slice_get members j ≡ Some n
+    → slice_get (keys_of m) a ≡ Some k → slice_get (keys_of n) b ≡ Some k → (i ≡ j) × (a ≡ b)
 
 -- the name and the terms of an event are valid
 pub record IsLegalEvent (e : Event) : Type 0 where
@@ -77,6 +85,11 @@ pub record IsLegalChallenge {DM SM : Type 0} (s : State DM SM) (c : Challenge) :
   pub accepted : (id : ℕ) → c.standing ≡ Accepted id →
       (game : AnyGame DM SM) × (place s.games id ≡ Some game) × (pairing_of game ≡ pairing_for c)
 
+-- what only an arbiter can do was never done
+pub record IsWithoutArbiter {DM SM : Type 0} (s : State DM SM) : Type 0 where
+  pub keys : Each (λ m. m.later ≡ []) s.members
+  pub events : Each (λ e. e.closed ≡ None) s.events
+
 -- the invariant of the club's state
 pub record IsLegalState {DP DM DE DT SP SM SE ST : Type 0} (rules : ClubRules DP DM DE DT SP SM SE ST)
     (s : State DM SM) : Type 0 where
@@ -84,12 +97,14 @@ pub record IsLegalState {DP DM DE DT SP SM SE ST : Type 0} (rules : ClubRules DP
   pub members : Each IsLegalMember s.members
   pub member_count : length s.members ≤ most_members
   pub member_names : HaveUniqueKeys (λ m. m.name) s.members
-  pub member_keys : HaveUniqueKeys (λ m. m.key) s.members
+  pub member_keys : HaveUniqueMemberKeys s.members
   pub events : Each IsLegalEvent s.events
   pub event_count : length s.events ≤ most_events
   pub event_names : HaveUniqueKeys (λ e. e.name) s.events
+  pub closings : Each (λ e. IfSome e.closed (λ moment. moment ≤ s.last)) s.events
   pub games : Each (IsLegalIn rules s) s.games
   pub game_count : length s.games ≤ most_games
   pub game_keys : HaveUniqueKeysIfAny (λ g. key_of g) s.games
   pub challenges : Each (IsLegalChallenge s) s.challenges
   pub challenge_numbers : HaveUniqueKeys key_of_challenge s.challenges
+  pub without_arbiter : s.has_arbiter ≡ false → IsWithoutArbiter s

@@ -1,7 +1,9 @@
 pub mod Members
 pub mod ClubRules
 pub mod Events
+pub mod Closings
 pub mod Seats
+pub mod Keys
 pub mod Challenges
 pub mod Game
 pub mod Legal

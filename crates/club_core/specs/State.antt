@@ -1,6 +1,6 @@
 -- The club's state (members, events, games of two kinds, challenges) and its transition function.
 use Rattle.std.specs.Prelude.{ℕ, zero, suc, ◌-◌, List, [], ◌∷◌, ◌++◌, length, map, count_by, Option, Some, None, Bool}
-use Rattle.std.specs.Prelude.{true, false, max, if◌then◌else◌, slice_get, slice_set}
+use Rattle.std.specs.Prelude.{true, false, not, ◌||◌, max, if◌then◌else◌, slice_get, slice_set}
 use Rattle.std.specs.Str.{bytes_eq}
 use Rattle.club_rules.specs.declared.names.GameKind.{GameKind}
 use Rattle.club_rules.specs.declared.names.GameKind.TheVariants.{Draughts, Shogi}
@@ -12,8 +12,10 @@ use Rattle.club_requests.specs.declared.refusals.Refusal.TheVariants.{UnknownKey
 use Rattle.club_requests.specs.Outcome.{Outcome, games_swept, accepted, repeated, refused, map_outcome, by_officer}
 use Rattle.club_requests.specs.Outcome.{by_member}
 use Rattle.club_core.specs.Members as members
-use Rattle.club_core.specs.Members.{find_id, member_step}
+use Rattle.club_core.specs.Members.{find_id, member_step, present_key}
+use Rattle.club_core.specs.Keys.{key_step}
 use Rattle.club_core.specs.Events.{Terms, Event, has_event_name, event_kind, event_declares, event_step}
+use Rattle.club_core.specs.Closings.{close_step}
 use Rattle.club_core.specs.declared.seats.KeyedGame.{KeyedGame}
 use Rattle.club_core.specs.declared.seats.Pairing.{Pairing}
 use Rattle.club_core.specs.Seats.{has_member_name, seat_step}
@@ -32,6 +34,8 @@ pub data AnyGame (DM SM : Type 0) : Type 0 where
 
 -- the ids of members, events and games are their indices, from 1
 pub record State (DM SM : Type 0) : Type 0 where
+  -- whether the club can record what only an arbiter does: later keys of members and closed events
+  pub has_arbiter : Bool
   -- timestamp of the last accepted request
   pub last : ℕ
   pub members : List members.Member
@@ -40,9 +44,10 @@ pub record State (DM SM : Type 0) : Type 0 where
   -- in the order in which they were opened; no command depends on the order
   pub challenges : List Challenge
 
--- a new club: no members, events, games or challenges
+-- a new club without an arbiter: no members, events, games or challenges
 abbrev pub opening_state : {DM SM : Type 0} → State DM SM
-opening_state = record { last = 0; members = []; events = []; games = []; challenges = [] }
+opening_state =
+    record { has_arbiter = false; last = 0; members = []; events = []; games = []; challenges = [] }
 
 -- a command to the club
 pub data Command : Type 0 where
@@ -55,6 +60,14 @@ pub data Command : Type 0 where
   open_challenge : (number : ℕ) → (event other : List ℕ) → (first : Bool) → Command
   withdraw_challenge : (number : ℕ) → Command
   answer_challenge : (challenger : List ℕ) → (number : ℕ) → (accept : Bool) → Command
+  new_key : (name : List ℕ) → (number : ℕ) → (key : List ℕ) → Command
+  close_event : (event : List ℕ) → Command
+
+-- a command of which only a club with an arbiter can record what it does
+abbrev pub needs_arbiter : Command → Bool
+needs_arbiter (new_key name number key) = true
+needs_arbiter (close_event event) = true
+needs_arbiter _ = false
 
 -- caller of a command: the officer, or the holder of a member's key
 pub data Who : Type 0 where
@@ -161,9 +174,9 @@ abbrev pub caller_found : Option ℕ → Option Caller
 caller_found None = None
 caller_found (Some id) = Some (Member id)
 
--- the member has this key
+-- the member has this key now
 abbrev pub has_member_key : List ℕ → members.Member → Bool
-has_member_key key m = bytes_eq m.key key
+has_member_key key m = bytes_eq (present_key m) key
 
 -- the caller of a command: the officer, or the member with the key, if it exists
 abbrev pub caller_of : List members.Member → Who → Option Caller
@@ -181,6 +194,10 @@ abbrev pub is_accepted : {S : Type 0} → Outcome S → Bool
 is_accepted (accepted new reply) = true
 is_accepted (repeated reply) = false
 is_accepted (refused refusal) = false
+
+-- the club can record what the command does
+abbrev pub takes : {DM SM : Type 0} → State DM SM → Command → Bool
+takes s command = not (needs_arbiter command) || s.has_arbiter
 
 module _ {DM SM : Type 0} (s : State DM SM) (moment : ℕ) where
   -- the state with these members, after a command at this timestamp
@@ -296,9 +313,13 @@ module _ {DP DM DE DT SP SM SE ST : Type 0} (rules : ClubRules DP DM DE DT SP SM
   step_command s moment who (answer_challenge challenger number accept) =
       by_member who
       (λ caller. map_outcome (with_answer s moment accept)
-      (answer_step
+      (answer_step s.events
       (challenge_by s.challenges (find_id (has_member_name challenger) s.members) number)
       (length s.games) caller accept))
+  step_command s moment who (new_key name number key) =
+      by_officer who (map_outcome (with_members s moment) (key_step s.members name number key))
+  step_command s moment who (close_event event) =
+      by_officer who (map_outcome (with_events s moment) (close_step s.events event moment))
 
   -- a command of a caller that was looked up by key; refused if there is none
   abbrev pub step_by : State DM SM → ℕ → Option Caller → Command → Outcome (State DM SM)

@@ -1,16 +1,18 @@
 //! Challenges between members: open, withdraw, accept and refuse.
 
-ghost use Rattle.std.specs.Prelude.{◌≡◌, ◌≤◌, ◌<◌, length, Option, Some, None, IsTrue, IfNone, string_bytes};
+ghost use Rattle.std.specs.Prelude.{◌≡◌, ◌≤◌, ◌<◌, List, length, Option, Some, None, IsTrue, IfNone, string_bytes};
 ghost use Rattle.std.specs.Option.{option_map};
 ghost use Rattle.club_requests.specs.Limits.{most_members, most_events, most_games, greatest_challenge};
 ghost use Rattle.club_core.specs.Challenges.{pairing_for, repeat_of_opening, opening_refusal, opening_found};
 ghost use Rattle.club_core.specs.Challenges.{opening_step, withdrawal_step, repeat_of_answer, answer_refusal, answers};
 ghost use Rattle.club_core.specs.Challenges.{answer_step};
+ghost use Rattle.club_core.specs.Events as core_events;
+ghost use Rattle.club_core.specs.Events.{is_closed};
 ghost use Rattle.club_requests.specs.Outcome.{by_member};
 ghost use Rattle.club_core.specs.Answer.{reply_of};
 ghost use Rattle.club_core.specs.internal.Answer.{members_of, events_of, challenge_outcome_of};
 
-use crate::events::Event;
+use crate::events::{Event, is_closed};
 use crate::members::Member;
 use crate::seats::{Pairing, are_distinct, find_event, find_member, is_id};
 use club_requests::values::{MOST_GAMES, is_challenge_number};
@@ -73,6 +75,18 @@ impl Challenge {
     }
 }
 
+/// A challenge to open, after its names are looked up; `other` is `None` if no member has the opponent's name, and
+/// `closed` is true if the event is closed to challenges.
+#[derive(Clone, Copy)]
+struct Opening {
+    member: u32,
+    number: u64,
+    event: u32,
+    other: Option<u32>,
+    first: bool,
+    closed: bool,
+}
+
 /// The answer to a repeat of the stored challenge, if the command is one.
 fn repeat_of_opening(
     event: u32,
@@ -95,44 +109,33 @@ fn repeat_of_opening(
 }
 
 /// The refusal of a new challenge, if any.
-fn refusal_of_opening(
-    caller: u32,
-    number: u64,
-    other: Option<u32>,
-    under: Option<Challenge>,
-) -> Option<Refusal>
-    ensures value { result ≡ opening_refusal caller number other under }
-    ensures small { IfNone result (number ≤ greatest_challenge) }
+fn refusal_of_opening(opening: Opening, under: Option<Challenge>) -> Option<Refusal>
+    ensures value { result ≡ opening_refusal opening.member opening.number opening.other opening.closed under }
+    ensures small { IfNone result (opening.number ≤ greatest_challenge) }
 {
     if under.is_some() {
         return Some(Refusal::Conflict);
     }
-    if !is_challenge_number(number) || !are_distinct(Some(caller), other) {
+    if !is_challenge_number(opening.number) || !are_distinct(Some(opening.member), opening.other) {
         return Some(Refusal::BadValue);
+    }
+    if opening.closed {
+        return Some(Refusal::EventClosed);
     }
     None
 }
 
-/// A challenge to open, after its names are looked up; `other` is `None` if no member has the opponent's name.
-#[derive(Clone, Copy)]
-struct Opening {
-    member: u32,
-    number: u64,
-    event: u32,
-    other: Option<u32>,
-    first: bool,
-}
-
 /// Opens a challenge after the names are looked up.
 fn opening_found(opening: Opening, under: Option<Challenge>) -> ChallengeDecision
-    ensures { challenge_outcome_of result ≡ opening_found opening.member opening.number (Some opening.event)
+    ensures { (events : List core_events.Event) → opening.closed ≡ is_closed events opening.event →
+        challenge_outcome_of result ≡ opening_found events opening.member opening.number (Some opening.event)
         opening.other opening.first under }
 {
     match repeat_of_opening(opening.event, opening.other, opening.first, under) {
         Some(answer) => return ChallengeDecision::Repeated(answer),
         None => {}
     }
-    match refusal_of_opening(opening.member, opening.number, opening.other, under) {
+    match refusal_of_opening(opening, under) {
         Some(refusal) => return ChallengeDecision::Refused(refusal),
         None => {}
     }
@@ -185,6 +188,7 @@ pub fn open_challenge(
         event,
         other: find_member(members, command.other.as_str()),
         first: command.first,
+        closed: is_closed(events, event),
     };
     opening_found(opening, under)
 }
@@ -241,8 +245,13 @@ fn repeat_of_answer(challenge: Challenge, accept: bool) -> Option<Answer>
 }
 
 /// The refusal of an answer to a challenge, if any.
-fn refusal_of_answer(standing: ChallengeState, games: u32, accept: bool) -> Option<Refusal>
-    ensures value { result ≡ answer_refusal standing games accept }
+fn refusal_of_answer(
+    standing: ChallengeState,
+    games: u32,
+    closed: bool,
+    accept: bool,
+) -> Option<Refusal>
+    ensures value { result ≡ answer_refusal standing games closed accept }
     ensures room { IfNone result (IsTrue accept → games < most_games) }
 {
     match standing {
@@ -251,6 +260,9 @@ fn refusal_of_answer(standing: ChallengeState, games: u32, accept: bool) -> Opti
     }
     if accept && games >= MOST_GAMES {
         return Some(Refusal::Full);
+    }
+    if accept && closed {
+        return Some(Refusal::EventClosed);
     }
     None
 }
@@ -281,15 +293,18 @@ fn answered(challenge: Challenge, games: u32, accept: bool) -> ChallengeDecision
     }
 }
 
-/// Accepts or refuses the challenge `under`; only the challenged member may. `games` is the number of games; an
-/// accepted challenge starts the next one.
+/// Accepts or refuses the challenge `under`; only the challenged member may. `events` is in the order of ids, and
+/// `games` is the number of games; an accepted challenge starts the next one. No challenge is accepted into a closed
+/// event.
 pub fn answer_challenge(
+    events: &[Event],
     under: Option<Challenge>,
     games: u32,
     caller: Caller,
     accept: bool,
 ) -> ChallengeDecision
-    ensures { challenge_outcome_of result ≡ by_member caller (λ member. answer_step under games member accept) }
+    ensures { challenge_outcome_of result ≡ by_member caller (λ member.
+        answer_step (events_of events.now) under games member accept) }
 {
     let caller = match caller {
         Caller::Officer => return ChallengeDecision::Refused(Refusal::NotAllowed),
@@ -306,7 +321,8 @@ pub fn answer_challenge(
         Some(answer) => return ChallengeDecision::Repeated(answer),
         None => {}
     }
-    match refusal_of_answer(challenge.standing, games, accept) {
+    let closed = is_closed(events, challenge.event);
+    match refusal_of_answer(challenge.standing, games, closed, accept) {
         Some(refusal) => ChallengeDecision::Refused(refusal),
         None => answered(challenge, games, accept),
     }

@@ -1,18 +1,20 @@
-//! Adding an event.
+//! Adding an event, and closing one to challenges.
 
-ghost use Rattle.std.specs.Prelude.{◌≡◌, ◌≤◌, ◌<◌, length, Option, Some, None, IfNone};
+ghost use Rattle.std.specs.Prelude.{◌≡◌, ◌≤◌, ◌<◌, ℕ, length, Option, Some, None, IfNone, string_bytes};
 ghost use Rattle.std.specs.List.{list_any};
 ghost use Rattle.club_requests.specs.Limits.{most_events};
 ghost use Rattle.club_core.specs.Members.{find_id};
 ghost use Rattle.club_core.specs.Events.{has_event_name, is_event, same_game, has_good_values, event_refusal};
-ghost use Rattle.club_core.specs.Events.{event_declares, event_step};
+ghost use Rattle.club_core.specs.Events.{event_declares, event_step, is_closed};
+ghost use Rattle.club_core.specs.Closings.{close_step};
 ghost use Rattle.club_requests.specs.Outcome.{by_officer};
 ghost use Rattle.club_core.specs.Answer.{added_event, outcome_of, answered};
 ghost use Rattle.club_core.specs.internal.Answer.{event_of, events_of};
 
 use crate::ids::id_at;
+use clocks::Moment;
 use club_requests::values::{MOST_EVENTS, is_budget, is_increment, is_name};
-use club_requests::{AddEvent, Answer, Caller, Outcome, Refusal};
+use club_requests::{AddEvent, Answer, Caller, CloseEvent, Outcome, Refusal};
 use club_rules::GameKind;
 
 /// An event: games of one kind. The budget (initial time per player) and the increment (per move) are in seconds.
@@ -24,6 +26,8 @@ pub struct Event {
     pub increment: u64,
     /// Whether players may declare a win.
     pub declares: bool,
+    /// The timestamp at which the event was closed to challenges, if it was.
+    pub closed: Option<Moment>,
 }
 
 fn is_same_game(a: GameKind, b: GameKind) -> bool
@@ -70,6 +74,19 @@ pub fn event_declares(events: &[Event], name: &str) -> bool
     events.iter().any(|e| e.name.as_str() == name && e.declares)
 }
 
+/// Whether the event with this id exists and is closed to challenges.
+pub(crate) fn is_closed(events: &[Event], id: u32) -> bool
+    ensures { result ≡ is_closed (events_of events.now) id }
+{
+    if id == 0 {
+        return false;
+    }
+    match events.get(id as usize - 1) {
+        Some(event) => event.closed.is_some(),
+        None => false,
+    }
+}
+
 /// The refusal of a new event, if any.
 fn refusal_of_event(events: &[Event], command: &AddEvent) -> Option<Refusal>
     ensures value { result ≡ event_refusal (events_of events.now) (added_event command.now) }
@@ -105,5 +122,28 @@ pub fn add_event(events: &[Event], caller: Caller, command: &AddEvent) -> Outcom
     match refusal_of_event(events, command) {
         Some(refusal) => Outcome::Refused(refusal),
         None => Outcome::Accepted(Answer::Event(events.len() as u32 + 1)),
+    }
+}
+
+/// Closes an event to challenges; only the officer may. `events` is in the order of ids.
+///
+/// Closing a closed event is a repeat. An event is never opened again.
+pub fn close_event(events: &[Event], caller: Caller, command: &CloseEvent) -> Outcome
+    requires { length events.now ≤ most_events }
+    ensures { (moment : ℕ) → outcome_of result ≡ answered (by_officer caller
+        (close_step (events_of events.now) (string_bytes command.now.event) moment)) }
+{
+    if caller != Caller::Officer {
+        return Outcome::Refused(Refusal::NotAllowed);
+    }
+    let name = command.event.as_str();
+    let event = match events.iter().find(|event| event.name.as_str() == name) {
+        Some(event) => event,
+        None => return Outcome::Refused(Refusal::UnknownEvent),
+    };
+    if event.closed.is_some() {
+        Outcome::Repeated(Answer::EventClosed)
+    } else {
+        Outcome::Accepted(Answer::EventClosed)
     }
 }

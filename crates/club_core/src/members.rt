@@ -3,8 +3,10 @@
 ghost use Rattle.std.specs.Prelude.{◌≡◌, ◌≤◌, ◌<◌, ◌&&◌, ◌||◌, length, Option, Some, None, IfNone};
 ghost use Rattle.std.specs.Prelude.{string_bytes};
 ghost use Rattle.std.specs.List.{list_any};
+ghost use Rattle.std.specs.Str.{bytes_eq};
 ghost use Rattle.club_requests.specs.Limits.{most_members, is_name, is_member_key};
-ghost use Rattle.club_core.specs.Members.{find_id, is_member, has_name_or_key, member_refusal, member_step};
+ghost use Rattle.club_core.specs.Members.{find_id, is_member, had_key, has_name_or_key, present_key};
+ghost use Rattle.club_core.specs.Members.{member_refusal, member_step};
 ghost use Rattle.club_core.specs.State.{caller_of, has_member_key};
 ghost use Rattle.club_requests.specs.Outcome.{by_officer};
 ghost use Rattle.club_core.specs.Answer.{outcome_of, answered, who_of};
@@ -14,11 +16,12 @@ use crate::ids::id_at;
 use club_requests::values::{MOST_MEMBERS, is_member_key, is_name};
 use club_requests::{AddMember, Answer, Caller, Outcome, Refusal, Who};
 
-/// A member of the club.
+/// A member of the club, with the first secret key and the keys that were given later, the newest last.
 #[derive(Debug, Drop)]
 pub struct Member {
     pub name: String,
     pub key: String,
+    pub later: Vec<String>,
 }
 
 impl Member {
@@ -28,14 +31,38 @@ impl Member {
         self.name.as_str() == name && self.key.as_str() == key
     }
 
+    // Whether one of the later keys is this one.
+    fn has_later(&self, key: &str) -> bool
+        ensures { result ≡ list_any (λ k. bytes_eq k key.now) (member_of self.now).later }
+    {
+        self.later.iter().any(|later| later.as_str() == key)
+    }
+
+    /// Whether the member has or had the key.
+    pub(crate) fn had_key(&self, key: &str) -> bool
+        ensures { result ≡ had_key key.now (member_of self.now) }
+    {
+        self.key.as_str() == key || self.has_later(key)
+    }
+
     fn has(&self, name: &str, key: &str) -> bool
         ensures { result ≡ has_name_or_key name.now key.now (member_of self.now) }
     {
-        self.name.as_str() == name || self.key.as_str() == key
+        self.name.as_str() == name || self.had_key(key)
+    }
+
+    /// The key that the member has now: the newest one.
+    pub fn present_key(&self) -> &str
+        ensures { result.now ≡ present_key (member_of self.now) }
+    {
+        match self.later.last() {
+            Some(key) => key.as_str(),
+            None => self.key.as_str(),
+        }
     }
 }
 
-/// The id of the member with this name and this key.
+/// The id of the member with this name and this first key.
 fn find_member(members: &[Member], name: &str, key: &str) -> Option<u32>
     requires { length members.now ≤ most_members }
     ensures { result ≡ find_id (is_member name.now key.now) (members_of members.now) }
@@ -43,7 +70,7 @@ fn find_member(members: &[Member], name: &str, key: &str) -> Option<u32>
     id_at(members.iter().position(|m| m.is(name, key)))
 }
 
-/// Whether a member has the name or the key.
+/// Whether a member has the name, or has or had the key.
 fn is_taken(members: &[Member], name: &str, key: &str) -> bool
     ensures { result ≡ list_any (has_name_or_key name.now key.now) (members_of members.now) }
 {
@@ -75,7 +102,7 @@ fn refusal_of_member(members: &[Member], name: &str, key: &str) -> Option<Refusa
 
 /// Adds a member; only the officer may. `members` is in the order of ids, and the new member gets the next id.
 ///
-/// Adding a member with the same name and key again is a repeat.
+/// Adding a member with the same name and first key again is a repeat. A key that any member has or had is taken.
 pub fn add_member(members: &[Member], caller: Caller, command: &AddMember) -> Outcome
     requires { length members.now ≤ most_members }
     ensures { outcome_of result ≡ answered (by_officer caller
@@ -96,7 +123,7 @@ pub fn add_member(members: &[Member], caller: Caller, command: &AddMember) -> Ou
     }
 }
 
-/// The caller of a command: the officer, or the member with the key. `None` if no member has the key.
+/// The caller of a command: the officer, or the member who has the key now. `None` if no member has it.
 pub fn identify(members: &[Member], who: &Who) -> Option<Caller>
     requires { length members.now ≤ most_members }
     ensures { result ≡ caller_of (members_of members.now) (who_of who.now) }
@@ -110,10 +137,10 @@ pub fn identify(members: &[Member], who: &Who) -> Option<Caller>
     }
 }
 
-/// The id of the member with this key.
+/// The id of the member who has this key now.
 fn find_key(members: &[Member], key: &str) -> Option<u32>
     requires { length members.now ≤ most_members }
     ensures { result ≡ find_id (has_member_key key.now) (members_of members.now) }
 {
-    id_at(members.iter().position(|m| m.key.as_str() == key))
+    id_at(members.iter().position(|m| m.present_key() == key))
 }

@@ -1,6 +1,6 @@
 -- What is added to a legal state, or put in place of what it has, leaves it legal.
 use Rattle.std.proofs.Common.{◌≡◌, ◌≢◌, ℕ, zero, suc, ◌+◌, ◌-◌, ◌<◌, ◌≤◌, List, [], ◌∷◌, ◌++◌, length, map, Option}
-use Rattle.std.proofs.Common.{Some, Bool, true, false, not, ◌&&◌, refl, sym, ap, ◌∙◌, arith, length-append}
+use Rattle.std.proofs.Common.{Some, None, Bool, true, false, not, ◌&&◌, refl, sym, ap, ◌∙◌, arith, length-append}
 use Rattle.std.proofs.Common.{length-set, inl, inr}
 use Rattle.std.specs.Prelude.{IsTrue, IsSome, IfSome, slice_get, slice_set}
 use Rattle.squares.specs.declared.sides.Side.{Side}
@@ -10,13 +10,18 @@ use Rattle.club_rules.specs.declared.names.GameKind.TheVariants.{Draughts, Shogi
 use Rattle.club_rules.specs.GameRules.{GameRules}
 use Rattle.club_requests.specs.declared.outside_end.OutsideEnd.TheVariants.{Time}
 use Rattle.club_requests.specs.Limits.{last_moment, most_members, most_events, most_games, is_name, is_member_key}
-use Rattle.club_requests.specs.Limits.{is_budget, is_increment}
+use Rattle.club_requests.specs.Limits.{is_budget, is_increment, most_keys}
+use Rattle.club_requests.specs.Outcome.{Reply}
+use Rattle.std.specs.List.{list_any}
+use Rattle.std.specs.Str.{bytes_eq}
 use Rattle.club_core.specs.ClubRules.{ClubRules}
 use Rattle.club_core.specs.declared.challenges.Challenge.{Challenge}
 use Rattle.club_core.specs.declared.challenges.ChallengeState.{ChallengeState}
 use Rattle.club_core.specs.declared.challenges.ChallengeState.TheVariants.{Accepted}
 use Rattle.club_core.specs.declared.seats.Pairing.{Pairing}
-use Rattle.club_core.specs.Members.{Member, find_id, has_name_or_key, member_tests}
+use Rattle.club_core.specs.Members.{Member, find_id, had_key, has_name_or_key, keys_of, member_tests}
+use Rattle.club_core.specs.Keys.{is_key_number, with_key}
+use Rattle.club_core.specs.Closings.{closed_at}
 use Rattle.club_core.specs.Events.{Terms, Event, has_event_name, has_good_values, event_tests, declaring}
 use Rattle.club_core.specs.Challenges.{key_of_challenge, put_challenge, pairing_for, standing_as}
 use Rattle.club_core.specs.Game.{Game, Entry, Clocks, spend, spend_all, clocks_of, left_of, turn_of}
@@ -27,11 +32,14 @@ use Rattle.club_core.specs.Legal.{IsLegalGame}
 use Rattle.club_core.specs.LegalState.{Each, IsLegalMember, IsLegalEvent, IsGameOf, IsLegalIn, IsLegalChallenge}
 use Rattle.club_core.specs.LegalState.{HaveUniqueKeys, HaveUniqueKeysIfAny, IsLegalState}
 use Rattle.club_core.proofs.Proved.{NoneHolds, IsPlayedLine-none}
+use Rattle.club_laws.proofs.ArbiterSteps.{WasKeyed, WasClosed}
 use Rattle.club_laws.proofs.GameSteps.{IsLaterGame, later-game-refl}
 use Rattle.club_laws.proofs.ImportedGames.{spend-since}
 use Rattle.club_laws.proofs.Later.{IsLater, IsLaterAny, key-later, pairing-later, place-later, members-later}
-use Rattle.club_laws.proofs.Later.{events-later, game-added-later, game-later}
-use Rattle.club_laws.proofs.Lists.{both-true, bytes_eq-same, place-append, is_some-append, each-append, got-set}
+use Rattle.club_laws.proofs.Later.{events-later, keyed-later, closing-later, game-added-later, game-later}
+use Rattle.club_laws.proofs.LaterParts.{IsLaterMember, IsLaterEvent, place-each-later, some-later}
+use Rattle.club_laws.proofs.KeyOwners.{added-key, given-key, keys-apart}
+use Rattle.club_laws.proofs.Lists.{both-true, bytes_eq-same, each-append, each-set, apart-set, got-set}
 use Rattle.club_laws.proofs.Lists.{find_id-found, or-false, list_any-false, are_apart-append, are_apart_if_any-append}
 use Rattle.club_laws.proofs.PutChallenges.{each-put, apart-put}
 use Rattle.club_laws.proofs.SeatSteps.{nat_le-false}
@@ -53,6 +61,24 @@ three-true false b c is = cc
 pub false-true : (b : Bool) → b ≡ false → b ≡ true → ⊥
 false-true true is_false is_true = cc
 false-true false is_false is_true = cc
+
+-- the event is open, or was closed no later than at a timestamp
+abbrev pub IsClosedBy : ℕ → Event → Type 0
+IsClosedBy last e = IfSome e.closed (λ moment. moment ≤ last)
+
+closed-rises : (closed : Option ℕ) (a b : ℕ) → a ≤ b → IfSome closed (λ moment. moment ≤ a)
+    → IfSome closed (λ moment. moment ≤ b)
+closed-rises None a b rises is = tt
+closed-rises (Some moment) a b rises is = omega (arith, rises, is)
+
+-- nobody has or had the key of a new member
+none-had : (all : List Member) (name key : List ℕ) → list_any (has_name_or_key name key) all ≡ false
+    → list_any (had_key key) all ≡ false
+none-had [] name key none = refl
+none-had (m ∷ ms) name key none =
+    let parts = or-false (has_name_or_key name key m) _ none in
+    let here = or-false (bytes_eq m.name name) (had_key key m) parts.0 in
+    rw (here.1, none-had ms name key parts.1) refl
 
 -- the clocks run from a moment that is at most the last
 pub since-within : {M : Type 0} (increment : ℕ) (side : Side) (es : List (Entry M)) (c : Clocks) (last : ℕ)
@@ -126,25 +152,27 @@ module _ {DP DM DE DT SP SM SE ST : Type 0} (kinds : ClubRules DP DM DE DT SP SM
   -- what is legal in a state is legal in a later one
   module _ (s t : State DM SM) (later : IsLater kinds s t) where
     later-member : (id : ℕ) → IsSome (place s.members id) → IsSome (place t.members id)
-    later-member id is = rw later.members.1 (is_some-append s.members later.members.0 id is)
+    later-member = some-later IsLaterMember s.members t.members later.members
 
     -- a later game of a legal one is legal, where its line and its moments are
     pub changed-game : {P M E T : Type 0} (laws : GameRules P M E T) (kind : GameKind) (game new : Game M)
         (of : IsGameOf laws kind s game) → IsLaterGame laws game new → IsLegalAt laws of.event.terms t.last new
         → IsGameOf laws kind t new
     changed-game laws kind game new of is legal =
+        let (event, in_event, is_later) = place-each-later IsLaterEvent s.events t.events later.events game.event
+        of.event of.in_event in
+        let terms : event.terms ≡ of.event.terms = ap (λ e. e.terms) is_later.same in
         record {
-          event = of.event;
-          in_event = rw (ap (λ g. g.event) is.head, later.events.1)
-              (place-append s.events later.events.0 game.event of.event of.in_event);
-          of_kind = of.of_kind;
-          legal = legal.legal;
+          event = event;
+          in_event = rw (ap (λ g. g.event) is.head) in_event;
+          of_kind = ap (λ e. e.game) is_later.same ∙ of.of_kind;
+          legal = rw terms legal.legal;
           first = rw (ap (λ g. g.first) is.head) (later-member game.first of.first);
           second = rw (ap (λ g. g.second) is.head) (later-member game.second of.second);
           key = rw (ap (λ g. g.key) is.head) of.key;
           start = let same = ap (λ g. g.start) is.head in omega (arith, same, of.start, later.last);
           entries = legal.entries;
-          lost_by_time = legal.lost_by_time;
+          lost_by_time = rw terms legal.lost_by_time;
         }
 
     any-later : (g : AnyGame DM SM) → IsLegalIn kinds s g → IsLegalIn kinds t g
@@ -162,7 +190,7 @@ module _ {DP DM DE DT SP SM SE ST : Type 0} (kinds : ClubRules DP DM DE DT SP SM
           member = later-member c.member is.member;
           other = later-member c.other is.other;
           apart = is.apart;
-          event = rw later.events.1 (is_some-append s.events later.events.0 c.event is.event);
+          event = some-later IsLaterEvent s.events t.events later.events c.event is.event;
           accepted = λ id stands.
               let (game, at, of) = is.accepted id stands in
               let (new, at_new, is_later) = place-later kinds s t later id game at in
@@ -175,35 +203,118 @@ module _ {DP DM DE DT SP SM SE ST : Type 0} (kinds : ClubRules DP DM DE DT SP SM
     challenges-stay : IsLegalState kinds s → Each (IsLegalChallenge t) s.challenges
     challenges-stay legal = λ n c at. challenge-stays c (legal.challenges n c at)
 
+    closings-stay : IsLegalState kinds s → Each (IsClosedBy t.last) s.events
+    closings-stay legal = λ n e at. closed-rises e.closed s.last t.last later.last (legal.closings n e at)
+
   module _ (s : State DM SM) (moment : ℕ) (rises : s.last ≤ moment) (within : moment ≤ last_moment)
       (legal : IsLegalState kinds s) where
     -- a member is added
     pub members-added : (name key : List ℕ) → NoneHolds (member_tests s.members name key)
-        → IsLegalState kinds (with_members s moment (s.members ++ record { name = name; key = key } ∷ []))
+        → IsLegalState kinds (with_members s moment (s.members ++ record { name = name; key = key; later = [] } ∷ []))
     members-added name key tests =
         let good = both-true (is_name name) (is_member_key key) (not-false _ tests.1.0) in
         let room : length s.members < most_members = nat_le-false _ _ tests.1.1.0 in
         let other's = λ (n : ℕ) (x : Member) (at : slice_get s.members n ≡ Some x). or-false _ _
         (list_any-false (has_name_or_key name key) s.members tests.0 n x at) in
-        let later = members-later kinds s moment rises (record { name = name; key = key } ∷ []) in
+        let later = members-later kinds s moment rises (record { name = name; key = key; later = [] } ∷ []) in
         record {
           last = within;
-          members = each-append IsLegalMember s.members _ legal.members (record { name = good.0; key = good.1 });
-          member_count = let count : length (s.members ++ record { name = name; key = key } ∷ [])
+          members = each-append IsLegalMember s.members _ legal.members
+              (record { name = good.0; key = good.1; later = λ n x at. cc; later_count = omega arith });
+          member_count = let count : length (s.members ++ record { name = name; key = key; later = [] } ∷ [])
               ≡ length s.members + 1 = simp length-append in omega (arith, count, room);
           member_names = are_apart-append (λ m. m.name) s.members _ legal.member_names
               (λ n x at same. false-true _ (other's n x at).0 (bytes_eq-same x.name name same));
-          member_keys = are_apart-append (λ m. m.key) s.members _ legal.member_keys
-              (λ n x at same. false-true _ (other's n x at).1 (bytes_eq-same x.key key same));
+          member_keys = keys-apart s.members _ key (length s.members) 0 legal.member_keys
+              (none-had s.members name key tests.0) (added-key s.members name key);
           events = legal.events;
           event_count = legal.event_count;
           event_names = legal.event_names;
+          closings = closings-stay s _ later legal;
           games = games-stay s _ later legal;
           game_count = legal.game_count;
           game_keys = legal.game_keys;
           challenges = challenges-stay s _ later legal;
           challenge_numbers = legal.challenge_numbers;
+          without_arbiter = λ none.
+              let without = legal.without_arbiter none in
+              record {
+                keys = each-append (λ m. m.later ≡ []) s.members _ without.keys refl;
+                events = without.events;
+              };
         }
+
+    -- a member is given another key
+    pub member-keyed : (name : List ℕ) (number : ℕ) (key : List ℕ) (new : List Member) (reply : Reply)
+        → s.has_arbiter ≡ true → WasKeyed s.members name number key new reply
+        → IsLegalState kinds (with_members s moment new)
+    member-keyed name number key new reply has was =
+        let m = was.member in
+        let i = was.id - 1 in
+        let keyed = with_key m key in
+        let good = both-true (is_member_key key) (is_key_number m number) (not-false _ was.tests.1.1.0) in
+        let room : length m.later < most_keys = nat_le-false _ _ was.tests.1.1.1.0 in
+        let later = keyed-later kinds s moment rises i m key was.stood in
+        let old = legal.members i m was.stood in
+        rw (← was.stands)
+        (record {
+          last = within;
+          members = each-set IsLegalMember s.members i keyed legal.members
+              (record {
+                name = old.name;
+                key = old.key;
+                later = each-append (λ k. IsTrue (is_member_key k)) m.later key old.later good.0;
+                later_count = let count : length (m.later ++ key ∷ []) ≡ length m.later + 1 = simp length-append in
+                    omega (arith, count, room);
+              });
+          member_count = let count : length (slice_set s.members i keyed) ≡ length s.members = simp length-set in
+              let few = legal.member_count in
+              omega (arith, count, few);
+          member_names = apart-set (λ u. u.name) s.members i m keyed was.stood refl legal.member_names;
+          member_keys = keys-apart s.members _ key i (length (keys_of m)) legal.member_keys was.tests.1.0
+              (given-key s.members i m key was.stood);
+          events = legal.events;
+          event_count = legal.event_count;
+          event_names = legal.event_names;
+          closings = closings-stay s _ later legal;
+          games = games-stay s _ later legal;
+          game_count = legal.game_count;
+          game_keys = legal.game_keys;
+          challenges = challenges-stay s _ later legal;
+          challenge_numbers = legal.challenge_numbers;
+          without_arbiter = λ none. absurd (false-true s.has_arbiter none has);
+        })
+
+    -- an event is closed
+    pub event-closed : (name : List ℕ) (new : List Event) (reply : Reply) → s.has_arbiter ≡ true
+        → WasClosed s.events name moment new reply → IsLegalState kinds (with_events s moment new)
+    event-closed name new reply has was =
+        let e = was.event in
+        let i = was.id - 1 in
+        let closed = closed_at e moment in
+        let later = closing-later kinds s moment rises i e was.stood was.was_open in
+        let old = legal.events i e was.stood in
+        rw (← was.stands)
+        (record {
+          last = within;
+          members = legal.members;
+          member_count = legal.member_count;
+          member_names = legal.member_names;
+          member_keys = legal.member_keys;
+          events = each-set IsLegalEvent s.events i closed legal.events
+              (record { name = old.name; budget = old.budget; increment = old.increment });
+          event_count = let count : length (slice_set s.events i closed) ≡ length s.events = simp length-set in
+              let few = legal.event_count in
+              omega (arith, count, few);
+          event_names = apart-set (λ u. u.name) s.events i e closed was.stood refl legal.event_names;
+          closings = each-set (IsClosedBy moment) s.events i closed (closings-stay s _ later legal) (omega arith);
+          games = games-stay s _ later legal;
+          game_count = legal.game_count;
+          game_keys = legal.game_keys;
+          challenges = challenges-stay s _ later legal;
+          challenge_numbers = legal.challenge_numbers;
+          without_arbiter = λ none. absurd (false-true s.has_arbiter none has);
+        })
 
     -- an event is added
     pub events-added : (event : Event) → NoneHolds (event_tests s.events event)
@@ -228,11 +339,18 @@ module _ {DP DM DE DT SP SM SE ST : Type 0} (kinds : ClubRules DP DM DE DT SP SM
           event_names = are_apart-append (λ e. e.name) s.events (declaring event) legal.event_names
               (λ n x at same. false-true _ (list_any-false (has_event_name event.name) s.events tests.0 n x at)
               (bytes_eq-same x.name event.name same));
+          closings = each-append (IsClosedBy moment) s.events (declaring event) (closings-stay s _ later legal) tt;
           games = games-stay s _ later legal;
           game_count = legal.game_count;
           game_keys = legal.game_keys;
           challenges = challenges-stay s _ later legal;
           challenge_numbers = legal.challenge_numbers;
+          without_arbiter = λ none.
+              let without = legal.without_arbiter none in
+              record {
+                keys = without.keys;
+                events = each-append (λ e. e.closed ≡ None) s.events (declaring event) without.events refl;
+              };
         }
 
     -- games are added or changed, and challenges put
@@ -252,11 +370,14 @@ module _ {DP DM DE DT SP SM SE ST : Type 0} (kinds : ClubRules DP DM DE DT SP SM
           events = legal.events;
           event_count = legal.event_count;
           event_names = legal.event_names;
+          closings = closings-stay s _ later legal;
           games = games;
           game_count = count;
           game_keys = keys;
           challenges = challenges;
           challenge_numbers = numbers;
+          without_arbiter = λ none. let without = legal.without_arbiter none in
+              record { keys = without.keys; events = without.events };
         }
 
     -- a challenge is put, which follows from the one in its place

@@ -10,6 +10,7 @@ use Rattle.club_requests.specs.declared.refusals.Refusal.TheVariants.{UnknownCha
 use Rattle.club_requests.specs.Limits.{most_games, is_challenge_number}
 use Rattle.club_requests.specs.Outcome.{Reply, challenge_opened, challenge_withdrawn, challenge_refused}
 use Rattle.club_requests.specs.Outcome.{challenge_accepted, accepted}
+use Rattle.club_core.specs.Events.{Event, is_closed}
 use Rattle.club_core.specs.Seats.{are_distinct}
 use Rattle.club_core.specs.Challenges.{is_open, standing_as, repeat_of_opening, opening_tests, opening_refusal, opens}
 use Rattle.club_core.specs.Challenges.{opening_found, repeat_of_withdrawal, withdrawal_tests, withdrawal_refusal}
@@ -83,14 +84,16 @@ opens-opened caller number event (Some to) first under new reply fresh good is =
       answer = sym same.1;
     })
 
-pub was-opened : (caller number : ℕ) (event other : Option ℕ) (first : Bool) (under : Option Challenge)
-    (new : Challenge) (reply : Reply) → opening_found caller number event other first under ≡ accepted new reply
+pub was-opened : (events : List Event) (caller number : ℕ) (event other : Option ℕ) (first : Bool)
+    (under : Option Challenge) (new : Challenge) (reply : Reply)
+    → opening_found events caller number event other first under ≡ accepted new reply
     → WasOpened caller number event other first under new reply
-was-opened caller number None other first under new reply is = cc
-was-opened caller number (Some event) other first under new reply is =
-    let parts = unless-accepted (repeat_of_opening event other first under) (opening_refusal caller number other under)
+was-opened events caller number None other first under new reply is = cc
+was-opened events caller number (Some event) other first under new reply is =
+    let parts = unless-accepted (repeat_of_opening event other first under)
+    (opening_refusal caller number other (is_closed events event) under)
     (opens caller number event other first) new reply is in
-    let tests = none-holds (opening_tests caller number other under) parts.1 in
+    let tests = none-holds (opening_tests caller number other (is_closed events event) under) parts.1 in
     opens-opened caller number event other first under new reply tests.0 (not-false _ tests.1.0) parts.2
 
 -- a challenge that was withdrawn was open
@@ -140,22 +143,24 @@ answers-as c games true new reply is =
     let same = accepted-same (standing_as c (Accepted next)) new (challenge_accepted c.number next) reply is in
     (same.0, ap Some same.1)
 
-pub was-answered : (cs : List Challenge) (by : Option ℕ) (number games caller : ℕ) (accept : Bool) (new : Challenge)
-    (reply : Reply) → answer_step (challenge_by cs by number) games caller accept ≡ accepted new reply
+pub was-answered : (events : List Event) (cs : List Challenge) (by : Option ℕ) (number games caller : ℕ)
+    (accept : Bool) (new : Challenge) (reply : Reply)
+    → answer_step events (challenge_by cs by number) games caller accept ≡ accepted new reply
     → WasAnswered cs by number games caller accept new reply
-was-answered cs None number games caller accept new reply is = cc
-was-answered cs (Some member) number games caller accept new reply is =
+was-answered events cs None number games caller accept new reply is = cc
+was-answered events cs (Some member) number games caller accept new reply is =
     of-found (challenge_under cs member number) refl is
   where
     of-found : (under : Option Challenge) → challenge_under cs member number ≡ under
-        → answer_step under games caller accept ≡ accepted new reply
+        → answer_step events under games caller accept ≡ accepted new reply
         → WasAnswered cs (Some member) number games caller accept new reply
     of-found None found step_is = cc
     of-found (Some c) found step_is =
         let asked = if-accepted (c.other == caller) _ UnknownChallenge new reply step_is in
         let parts = unless-accepted (repeat_of_answer c.number c.standing accept)
-        (answer_refusal c.standing games accept) (answers c games accept) new reply asked.1 in
-        let tests = none-holds (answer_tests c.standing games accept) parts.1 in
+        (answer_refusal c.standing games (is_closed events c.event) accept) (answers c games accept) new reply
+        asked.1 in
+        let tests = none-holds (answer_tests c.standing games (is_closed events c.event) accept) parts.1 in
         let left = answers-as c games accept new reply parts.2 in
         record {
           member = member;

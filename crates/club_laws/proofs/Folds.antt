@@ -27,3 +27,7 @@ module _ {DP DM DE DT SP SM SE ST : Type 0} (kinds : ClubRules DP DM DE DT SP SM
 
   pub next-raises : (s : State DM SM) (r : Request) → s.last ≤ (next kinds s r).last
   next-raises s r = let later = next-later kinds s r in later.last
+
+  -- no request gives a club an arbiter, or takes it away
+  pub next-arbiter : (s : State DM SM) (r : Request) → (next kinds s r).has_arbiter ≡ s.has_arbiter
+  next-arbiter s r = let later = next-later kinds s r in later.arbiter

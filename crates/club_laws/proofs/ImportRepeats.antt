@@ -18,24 +18,26 @@ use Rattle.club_core.specs.State.{AnyGame, draughts, shogi, State, has_key, is_k
 use Rattle.club_core.specs.State.{any_under, at_found, draughts_in, shogi_in, with_imported, import_looked_up}
 use Rattle.club_core.specs.State.{import_as}
 use Rattle.club_core.proofs.Proved.{AreRules}
-use Rattle.club_laws.proofs.Lists.{bytes_eq-same, at-last, find_id-append, place-append}
+use Rattle.club_laws.proofs.Lists.{bytes_eq-same, at-last}
 use Rattle.club_laws.proofs.Accepts.{map-accepted, officer-accepted}
 use Rattle.club_laws.proofs.GameSteps.{IsLaterGame}
 use Rattle.club_laws.proofs.Later.{IsLater, IsLaterAny}
+use Rattle.club_laws.proofs.LaterParts.{IsEachLater, IsLaterEvent, event-named-later, place-each-later}
 use Rattle.club_laws.proofs.SeatSteps.{added-found, seats-again}
 use Rattle.club_laws.proofs.ImportedGames.{imported-result, record-of-itself}
 use Rattle.club_laws.proofs.ImportSteps.{kind-found, was-imported, by-rules}
 use Rattle.club_laws.proofs.Repeats.{RepeatsImport}
 
 -- the kind of an event that is found stays
-kind-later : (name : List ℕ) (es more : List Event) (id : ℕ) → find_id (has_event_name name) es ≡ Some id
-    → event_kind (es ++ more) name ≡ event_kind es name
-kind-later name es more id is =
+kind-later : (name : List ℕ) (es now : List Event) (id : ℕ) → IsEachLater IsLaterEvent es now
+    → find_id (has_event_name name) es ≡ Some id → event_kind now name ≡ event_kind es name
+kind-later name es now id later is =
     let (e, at, kind) = kind-found name es id is in
-    let (x, at_x, kind_x) = kind-found name (es ++ more) id (find_id-append (has_event_name name) es more id is) in
-    let both : Some x ≡ Some e = sym at_x ∙ place-append es more id e at in
-    let same : x ≡ e = cc in
-    sym kind_x ∙ (ap (λ u. u.game) same ∙ kind)
+    let (x, at_x, kind_x) = kind-found name now id (event-named-later name es now id later is) in
+    let (y, at_y, is_later) = place-each-later IsLaterEvent es now later id e at in
+    let both : Some x ≡ Some y = sym at_x ∙ at_y in
+    let same : x ≡ y = cc in
+    sym kind_x ∙ (ap (λ u. u.game) (same ∙ is_later.same) ∙ kind)
 
 -- an import of a game of one kind
 module _ {DP DM DE DT SP SM SE ST P M E T : Type 0} (kinds : ClubRules DP DM DE DT SP SM SE ST)
@@ -119,5 +121,5 @@ module _ {DP DM DE DT SP SM SE ST : Type 0} (kinds : ClubRules DP DM DE DT SP SM
       let (id, found) = found-event s moment given kind after reply by.1
       (find_id (has_event_name given.event) s.events) refl in
       let same : event_kind t.events given.event ≡ kind =
-      rw to_t.events.1 (kind-later given.event s.events to_t.events.0 id found) in
+      kind-later given.event s.events t.events id to_t.events found in
       rw (by.0, same) (as-again s t moment again given kind after reply by.1 later)

@@ -2,7 +2,7 @@
 -- and challenges stand under their numbers.
 use Rattle.std.proofs.Common.{◌≡◌, ℕ, zero, suc, ◌+◌, ◌-◌, ◌≤◌, List, [], ◌∷◌, ◌++◌, length, map, Option, Some, None}
 use Rattle.std.proofs.Common.{Bool, true, false, refl, ap, sym, ◌∙◌, arith, inl, inr}
-use Rattle.std.specs.Prelude.{max, slice_get, slice_set, if◌then◌else◌}
+use Rattle.std.specs.Prelude.{is_some, max, slice_get, slice_set, if◌then◌else◌}
 use Rattle.club_rules.specs.declared.names.GameKind.{GameKind}
 use Rattle.club_rules.specs.declared.names.GameKind.TheVariants.{Draughts, Shogi}
 use Rattle.club_requests.specs.declared.requests.Caller.{Caller}
@@ -22,15 +22,22 @@ use Rattle.club_core.specs.Challenges.{opening_step, withdrawal_step, answer_ste
 use Rattle.club_core.specs.Game.{Game}
 use Rattle.club_core.specs.Step.{GameCommand, game_step}
 use Rattle.club_core.specs.State.{AnyGame, draughts, shogi, State, Command, add_member, add_event, seat, import_record}
-use Rattle.club_core.specs.State.{on_game, sweep, open_challenge, withdraw_challenge, answer_challenge, Request}
+use Rattle.club_core.specs.State.{on_game, sweep, open_challenge, withdraw_challenge, answer_challenge, new_key}
+use Rattle.club_core.specs.State.{close_event, Request}
 use Rattle.club_core.specs.State.{state_after, place, terms_at, key_of, pairing_of, game_under, any_under, draughts_in}
 use Rattle.club_core.specs.State.{shogi_in, caller_of, with_members, with_events, with_new_game, with_imported}
 use Rattle.club_core.specs.State.{with_game}
 use Rattle.club_core.specs.State.{with_challenge, challenge_game, with_answer, swept_any, with_swept, import_looked_up}
 use Rattle.club_core.specs.State.{import_as, step_game, step_command, step_by, next, fold}
 use Rattle.club_laws.proofs.Lists.{get-append, set-got, map-at}
+use Rattle.club_core.specs.Keys.{with_key, key_step}
+use Rattle.club_core.specs.Closings.{closed_at, close_step}
 use Rattle.club_laws.proofs.Accepts.{outcome-later, officer-later, officer-adds}
-use Rattle.club_laws.proofs.GameSteps.{Begins, begins-refl, begins-trans, IsLaterGame, later-game-refl}
+use Rattle.club_laws.proofs.ArbiterSteps.{was-keyed, was-closed, with_key-later, closed_at-later}
+use Rattle.club_laws.proofs.LaterParts.{IsEachLater, each-later-refl, each-later-trans, each-later-append}
+use Rattle.club_laws.proofs.LaterParts.{each-later-set, IsLaterMember, later-member-refl, later-member-trans}
+use Rattle.club_laws.proofs.LaterParts.{IsLaterEvent, later-event-refl, later-event-trans}
+use Rattle.club_laws.proofs.GameSteps.{IsLaterGame, later-game-refl}
 use Rattle.club_laws.proofs.GameSteps.{later-game-trans}
 use Rattle.club_laws.proofs.GameSteps.{was-given, swept-game-later}
 use Rattle.club_laws.proofs.PutChallenges.{under-key, under-same, under-found, under-put}
@@ -56,8 +63,9 @@ module _ {DP DM DE DT SP SM SE ST : Type 0} (kinds : ClubRules DP DM DE DT SP SM
 
   pub record IsLater (s t : State DM SM) : Type 0 where
     pub last : s.last ≤ t.last
-    pub members : Begins s.members t.members
-    pub events : Begins s.events t.events
+    pub arbiter : t.has_arbiter ≡ s.has_arbiter
+    pub members : IsEachLater IsLaterMember s.members t.members
+    pub events : IsEachLater IsLaterEvent s.events t.events
     pub games : (n : ℕ) (g : AnyGame DM SM) → slice_get s.games n ≡ Some g → (new : AnyGame DM SM)
         × (slice_get t.games n ≡ Some new) × IsLaterAny g new
     pub challenges : (member number : ℕ) (c : Challenge) → challenge_under s.challenges member number ≡ Some c
@@ -99,12 +107,19 @@ module _ {DP DM DE DT SP SM SE ST : Type 0} (kinds : ClubRules DP DM DE DT SP SM
       × (challenge_under s.challenges member number ≡ Some new) × IsLaterChallenge c new
   challenges-stay s member number c at = (c, at, later-challenge-refl c)
 
+  members-stay : (s : State DM SM) → IsEachLater IsLaterMember s.members s.members
+  members-stay s = each-later-refl IsLaterMember later-member-refl s.members
+
+  events-stay : (s : State DM SM) → IsEachLater IsLaterEvent s.events s.events
+  events-stay s = each-later-refl IsLaterEvent later-event-refl s.events
+
   pub later-refl : (s : State DM SM) → IsLater s s
   later-refl s =
       record {
         last = omega arith;
-        members = begins-refl s.members;
-        events = begins-refl s.events;
+        arbiter = refl;
+        members = members-stay s;
+        events = events-stay s;
         games = games-stay s;
         challenges = challenges-stay s;
       }
@@ -113,8 +128,11 @@ module _ {DP DM DE DT SP SM SE ST : Type 0} (kinds : ClubRules DP DM DE DT SP SM
   later-trans s t u first second =
       record {
         last = omega (arith, first.last, second.last);
-        members = begins-trans s.members t.members u.members first.members second.members;
-        events = begins-trans s.events t.events u.events first.events second.events;
+        arbiter = second.arbiter ∙ first.arbiter;
+        members = each-later-trans IsLaterMember later-member-trans s.members t.members u.members first.members
+            second.members;
+        events = each-later-trans IsLaterEvent later-event-trans s.events t.events u.events first.events
+            second.events;
         games = λ n g at.
             let (middle, at_middle, to_middle) = first.games n g at in
             let (new, at_new, to_new) = second.games n middle at_middle in
@@ -127,25 +145,51 @@ module _ {DP DM DE DT SP SM SE ST : Type 0} (kinds : ClubRules DP DM DE DT SP SM
 
   -- what one command does to a state at a moment that is not before its last
   module _ (s : State DM SM) (moment : ℕ) (rises : s.last ≤ moment) where
-    pub members-later : (more : List members.Member) → IsLater s (with_members s moment (s.members ++ more))
-    members-later more =
+    all-members-later : (all : List members.Member) → IsEachLater IsLaterMember s.members all
+        → IsLater s (with_members s moment all)
+    all-members-later all later =
         record {
           last = rises;
-          members = (more, refl);
-          events = begins-refl s.events;
+          arbiter = refl;
+          members = later;
+          events = events-stay s;
           games = games-stay s;
           challenges = challenges-stay s;
         }
 
-    pub events-later : (more : List Event) → IsLater s (with_events s moment (s.events ++ more))
-    events-later more =
+    all-events-later : (all : List Event) → IsEachLater IsLaterEvent s.events all → IsLater s (with_events s moment all)
+    all-events-later all later =
         record {
           last = rises;
-          members = begins-refl s.members;
-          events = (more, refl);
+          arbiter = refl;
+          members = members-stay s;
+          events = later;
           games = games-stay s;
           challenges = challenges-stay s;
         }
+
+    pub members-later : (more : List members.Member) → IsLater s (with_members s moment (s.members ++ more))
+    members-later more =
+        all-members-later (s.members ++ more) (each-later-append IsLaterMember later-member-refl s.members more)
+
+    pub events-later : (more : List Event) → IsLater s (with_events s moment (s.events ++ more))
+    events-later more =
+        all-events-later (s.events ++ more) (each-later-append IsLaterEvent later-event-refl s.events more)
+
+    -- a member is given another key
+    pub keyed-later : (i : ℕ) (m : members.Member) (key : List ℕ) → slice_get s.members i ≡ Some m
+        → IsLater s (with_members s moment (slice_set s.members i (with_key m key)))
+    keyed-later i m key at =
+        all-members-later (slice_set s.members i (with_key m key))
+        (each-later-set IsLaterMember later-member-refl s.members i m (with_key m key) at (with_key-later m key))
+
+    -- an event is closed
+    pub closing-later : (i : ℕ) (e : Event) → slice_get s.events i ≡ Some e → is_some e.closed ≡ false
+        → IsLater s (with_events s moment (slice_set s.events i (closed_at e moment)))
+    closing-later i e at was_open =
+        all-events-later (slice_set s.events i (closed_at e moment))
+        (each-later-set IsLaterEvent later-event-refl s.events i e (closed_at e moment) at
+        (closed_at-later e moment was_open))
 
     games-later : (all : List (AnyGame DM SM)) → ((n : ℕ) (g : AnyGame DM SM) → slice_get s.games n ≡ Some g
         → (new : AnyGame DM SM) × (slice_get all n ≡ Some new) × IsLaterAny g new)
@@ -153,8 +197,9 @@ module _ {DP DM DE DT SP SM SE ST : Type 0} (kinds : ClubRules DP DM DE DT SP SM
     games-later all later =
         record {
           last = rises;
-          members = begins-refl s.members;
-          events = begins-refl s.events;
+          arbiter = refl;
+          members = members-stay s;
+          events = events-stay s;
           games = later;
           challenges = challenges-stay s;
         }
@@ -185,8 +230,9 @@ module _ {DP DM DE DT SP SM SE ST : Type 0} (kinds : ClubRules DP DM DE DT SP SM
     challenge-later new fits =
         record {
           last = rises;
-          members = begins-refl s.members;
-          events = begins-refl s.events;
+          arbiter = refl;
+          members = members-stay s;
+          events = events-stay s;
           games = games-stay s;
           challenges = λ member number c at. put-found s.challenges new c member number at fits
               (is_under member number new) refl (under-put s.challenges new member number);
@@ -209,7 +255,7 @@ module _ {DP DM DE DT SP SM SE ST : Type 0} (kinds : ClubRules DP DM DE DT SP SM
         → opening_step s.members s.events (challenge_under s.challenges id number) id number event other first
         ≡ accepted new reply → IsLater s (with_challenge s moment new)
     opened-later id number event other first new reply is =
-        let was = was-opened id number (find_id (has_event_name event) s.events)
+        let was = was-opened s.events id number (find_id (has_event_name event) s.events)
         (find_id (has_member_name other) s.members) first (challenge_under s.challenges id number) new reply is in
         challenge-later new
         (λ old at.
@@ -225,13 +271,14 @@ module _ {DP DM DE DT SP SM SE ST : Type 0} (kinds : ClubRules DP DM DE DT SP SM
         rw (← was.stands) (close-later id number was.old Withdrawn was.found was.waited)
 
   pub answered-later : (s : State DM SM) (moment : ℕ) (by : Option ℕ) (number id : ℕ) (accept : Bool) (new : Challenge)
-      (reply : Reply) → s.last ≤ moment → answer_step (challenge_by s.challenges by number) (length s.games) id accept
-      ≡ accepted new reply → IsLater s (with_answer s moment accept new)
+      (reply : Reply) → s.last ≤ moment
+      → answer_step s.events (challenge_by s.challenges by number) (length s.games) id accept ≡ accepted new reply
+      → IsLater s (with_answer s moment accept new)
   answered-later s moment by number id false new reply rises is =
-      let was = was-answered s.challenges by number (length s.games) id false new reply is in
+      let was = was-answered s.events s.challenges by number (length s.games) id false new reply is in
       rw (← was.stands) (close-later s moment rises was.member number was.old Refused was.found was.waited)
   answered-later s moment by number id true new reply rises is =
-      let was = was-answered s.challenges by number (length s.games) id true new reply is in
+      let was = was-answered s.events s.challenges by number (length s.games) id true new reply is in
       let played : State DM SM = with_imported s moment (challenge_game s moment was.old) in
       rw (← was.stands)
       (later-trans s played _ (game-added-later s moment rises (challenge_game s moment was.old))
@@ -283,9 +330,9 @@ module _ {DP DM DE DT SP SM SE ST : Type 0} (kinds : ClubRules DP DM DE DT SP SM
         → IsLater s (state_after s (step_command kinds s moment who command))
     command-later who (add_member name key) =
         officer-adds (λ t. IsLater s t) s (with_members s moment) who (same_member s.members name key)
-        (member_tests s.members name key) (s.members ++ record { name = name; key = key } ∷ [])
+        (member_tests s.members name key) (s.members ++ record { name = name; key = key; later = [] } ∷ [])
         (member_added (length s.members + 1)) (later-refl s)
-        (λ tests. members-later s moment rises (record { name = name; key = key } ∷ []))
+        (λ tests. members-later s moment rises (record { name = name; key = key; later = [] } ∷ []))
     command-later who (add_event event) =
         officer-adds (λ t. IsLater s t) s (with_events s moment) who (same_event s.events event)
         (event_tests s.events event) (s.events ++ declaring event ∷ []) (event_added (length s.events + 1))
@@ -312,8 +359,19 @@ module _ {DP DM DE DT SP SM SE ST : Type 0} (kinds : ClubRules DP DM DE DT SP SM
     command-later (Member id) (answer_challenge challenger number accept) =
         let by = find_id (has_member_name challenger) s.members in
         outcome-later (λ t. IsLater s t) s (with_answer s moment accept)
-        (answer_step (challenge_by s.challenges by number) (length s.games) id accept) (later-refl s)
+        (answer_step s.events (challenge_by s.challenges by number) (length s.games) id accept) (later-refl s)
         (λ new reply. answered-later s moment by number id accept new reply rises)
+    command-later who (new_key name number key) =
+        officer-later (λ t. IsLater s t) s (with_members s moment) who (key_step s.members name number key)
+        (later-refl s)
+        (λ new reply is.
+        let was = was-keyed s.members name number key new reply is in
+        rw (← was.stands) (keyed-later s moment rises (was.id - 1) was.member key was.stood))
+    command-later who (close_event event) =
+        officer-later (λ t. IsLater s t) s (with_events s moment) who (close_step s.events event moment) (later-refl s)
+        (λ new reply is.
+        let was = was-closed s.events event moment new reply is in
+        rw (← was.stands) (closing-later s moment rises (was.id - 1) was.event was.stood was.was_open))
 
     pub by-later : (who : Option Caller) (command : Command)
         → IsLater s (state_after s (step_by kinds s moment who command))

@@ -1,7 +1,7 @@
 -- A request leaves a legal state legal.
 use Rattle.std.proofs.Common.{◌≡◌, ℕ, zero, suc, ◌+◌, ◌-◌, ◌<◌, ◌≤◌, List, [], ◌∷◌, ◌++◌, length, map, Option}
 use Rattle.std.proofs.Common.{Some, None, Bool, true, false, not, ◌&&◌, refl, sym, ◌∙◌, ap, subst, arith, add-one}
-use Rattle.std.specs.Prelude.{IsSome, max, nat_lt, nat_le, if◌then◌else◌}
+use Rattle.std.specs.Prelude.{IsSome, IsTrue, max, nat_lt, nat_le, if◌then◌else◌}
 use Rattle.std.proofs.lemmas.Bool.{ltb-false}
 use Rattle.std.proofs.lemmas.Bool.Decides.{nat_tests}
 use Rattle.std.proofs.lemmas.List.{length-map}
@@ -28,13 +28,17 @@ use Rattle.club_core.specs.declared.seats.Pairing.{Pairing}
 use Rattle.club_core.specs.Seats.{has_member_name, seat_step}
 use Rattle.club_core.specs.Challenges.{challenge_under, challenge_by, is_open, pairing_for, standing_as, opening_step}
 use Rattle.club_core.specs.Challenges.{withdrawal_step, answer_step}
+use Rattle.club_core.specs.Keys.{key_step}
+use Rattle.club_core.specs.Closings.{close_step}
 use Rattle.club_core.specs.Imports.{Import}
 use Rattle.club_core.specs.Legal.{MayEndBy}
 use Rattle.club_core.specs.Game.{Game, clocks_of, left_of, turn_of, last_position}
 use Rattle.club_core.specs.Step.{GameCommand, move, offer_draw, accept_draw, resign, claim_time, declare, has_offer}
 use Rattle.club_core.specs.Step.{is_over, is_overdue, ended, swept, game_step}
 use Rattle.club_core.specs.State.{AnyGame, draughts, shogi, State, Command, add_member, add_event, seat, import_record}
-use Rattle.club_core.specs.State.{on_game, sweep, open_challenge, withdraw_challenge, answer_challenge, Who, officer}
+use Rattle.club_core.specs.State.{on_game, sweep, open_challenge, withdraw_challenge, answer_challenge, new_key}
+use Rattle.club_core.specs.State.{close_event}
+use Rattle.club_core.specs.State.{Who, officer, takes}
 use Rattle.club_core.specs.State.{key_holder, Request, state_after, place, kind_at, key_of, game_under, seated_as}
 use Rattle.club_core.specs.State.{caller_of, caller_found, has_member_key, with_members, with_events, with_new_game}
 use Rattle.club_core.specs.State.{with_imported, with_game, with_challenge, challenge_game, with_answer, terms_at}
@@ -44,6 +48,7 @@ use Rattle.club_core.proofs.Proved.{AreRules, not-some, checked-legal, legal-pla
 use Rattle.club_core.proofs.Proved.{legal-ended}
 use Rattle.club_laws.proofs.Lists.{some-is, both-true, each-append, at-last, find_id-found, map-got}
 use Rattle.club_laws.proofs.Accepts.{outcome-later, officer-later, officer-adds}
+use Rattle.club_laws.proofs.ArbiterSteps.{was-keyed, was-closed}
 use Rattle.club_laws.proofs.PutChallenges.{under-each}
 use Rattle.club_laws.proofs.Challenged.{was-opened, was-withdrawn, was-answered}
 use Rattle.club_laws.proofs.GameSteps.{IsLaterGame, Finds, Leaves, was-given, swept-game-later, is-next}
@@ -52,7 +57,8 @@ use Rattle.club_laws.proofs.Later.{IsLaterAny, key-later, game-later, game-added
 use Rattle.club_laws.proofs.Later.{withdrawn-later, answered-later, swept-any-later, swept-later}
 use Rattle.club_laws.proofs.AddedSteps.{not-false, since-within, IsLegalAt, legal-at, restanding, changed-game}
 use Rattle.club_laws.proofs.AddedSteps.{challenge-stays, members-added, events-added, any-seated, any-added, game-added}
-use Rattle.club_laws.proofs.AddedSteps.{challenge-put, game-changed, games-changed, found-some}
+use Rattle.club_laws.proofs.AddedSteps.{challenge-put, game-changed, games-changed, found-some, member-keyed}
+use Rattle.club_laws.proofs.AddedSteps.{event-closed}
 
 some-offer : (offer : Option Offer) (side : Side) (ply : ℕ) → has_offer offer side ply ≡ true → IsSome offer
 some-offer None side ply is = cc
@@ -239,17 +245,17 @@ module _ {DP DM DE DT SP SM SE ST : Type 0} (kinds : ClubRules DP DM DE DT SP SM
 
     -- the member challenged answers
     answered-kept : (by : Option ℕ) (number id : ℕ) (accept : Bool) (new : Challenge) (reply : Reply)
-        → answer_step (challenge_by s.challenges by number) (length s.games) id accept ≡ accepted new reply
+        → answer_step s.events (challenge_by s.challenges by number) (length s.games) id accept ≡ accepted new reply
         → IsLegalState kinds (with_answer s moment accept new)
     answered-kept by number id false new reply is =
-        let was = was-answered s.challenges by number (length s.games) id false new reply is in
+        let was = was-answered s.events s.challenges by number (length s.games) id false new reply is in
         let old_legal = under-each (IsLegalChallenge s) s.challenges was.member number was.old legal.challenges
         was.found in
         challenge-put kinds s moment rises within legal new
         (answered-later kinds s moment by number id false new reply rises is)
         (rw (← was.stands) (restanding s was.old Refused old_legal (λ game is. cc)))
     answered-kept by number id true new reply is =
-        let was = was-answered s.challenges by number (length s.games) id true new reply is in
+        let was = was-answered s.events s.challenges by number (length s.games) id true new reply is in
         rw (← was.stands) (accepted-kept was.old was.member number was.found was.waited was.room)
 
     -- the challenger withdraws
@@ -269,7 +275,7 @@ module _ {DP DM DE DT SP SM SE ST : Type 0} (kinds : ClubRules DP DM DE DT SP SM
         → opening_step s.members s.events (challenge_under s.challenges id number) id number event other first
         ≡ accepted new reply → IsLegalState kinds (with_challenge s moment new)
     opened-kept id number event other first new reply is_member is =
-        let was = was-opened id number (find_id (has_event_name event) s.events)
+        let was = was-opened s.events id number (find_id (has_event_name event) s.events)
         (find_id (has_member_name other) s.members) first (challenge_under s.challenges id number) new reply is in
         challenge-put kinds s moment rises within legal new
         (opened-later kinds s moment rises id number event other first new reply is)
@@ -335,51 +341,60 @@ module _ {DP DM DE DT SP SM SE ST : Type 0} (kinds : ClubRules DP DM DE DT SP SM
         subst (IsLegalIn kinds (with_swept kinds s moment)) is (swept-any-kept old (legal.games n old was)),
       ))
 
-  command-kept : (who : Caller) (command : Command) → IsCallerIn s.members who
+  command-kept : (who : Caller) (command : Command) → IsTrue (takes s command) → IsCallerIn s.members who
       → IsLegalState kinds (state_after s (step_command kinds s moment who command))
-  command-kept who (add_member name key) is_caller =
+  command-kept who (add_member name key) taken is_caller =
       officer-adds (IsLegalState kinds) s (with_members s moment) who (same_member s.members name key)
-      (member_tests s.members name key) (s.members ++ record { name = name; key = key } ∷ [])
+      (member_tests s.members name key) (s.members ++ record { name = name; key = key; later = [] } ∷ [])
       (member_added (length s.members + 1)) legal (members-added kinds s moment rises within legal name key)
-  command-kept who (add_event event) is_caller =
+  command-kept who (add_event event) taken is_caller =
       officer-adds (IsLegalState kinds) s (with_events s moment) who (same_event s.events event)
       (event_tests s.events event) (s.events ++ declaring event ∷ []) (event_added (length s.events + 1)) legal
       (events-added kinds s moment rises within legal event)
-  command-kept who (seat key event first second) is_caller =
+  command-kept who (seat key event first second) taken is_caller =
       officer-later (IsLegalState kinds) s (with_new_game s moment key) who
       (seat_step s.members s.events (game_under s.games key) (length s.games) key event first second) legal
       (seat-kept kinds s moment rises within legal key event first second)
-  command-kept who (import_record given) is_caller = by_import s moment rises within legal who given
-  command-kept who (on_game id command) is_caller = game-kept id who command (place s.games id) refl
-  command-kept Officer sweep is_caller = all-swept-kept
-  command-kept (Member id) sweep is_caller = legal
-  command-kept Officer (open_challenge number event other first) is_caller = legal
-  command-kept (Member id) (open_challenge number event other first) is_caller =
+  command-kept who (import_record given) taken is_caller = by_import s moment rises within legal who given
+  command-kept who (on_game id command) taken is_caller = game-kept id who command (place s.games id) refl
+  command-kept Officer sweep taken is_caller = all-swept-kept
+  command-kept (Member id) sweep taken is_caller = legal
+  command-kept Officer (open_challenge number event other first) taken is_caller = legal
+  command-kept (Member id) (open_challenge number event other first) taken is_caller =
       outcome-later (IsLegalState kinds) s (with_challenge s moment)
       (opening_step s.members s.events (challenge_under s.challenges id number) id number event other first) legal
       (λ new reply. opened-kept kinds s moment rises within legal id number event other first new reply is_caller)
-  command-kept Officer (withdraw_challenge number) is_caller = legal
-  command-kept (Member id) (withdraw_challenge number) is_caller =
+  command-kept Officer (withdraw_challenge number) taken is_caller = legal
+  command-kept (Member id) (withdraw_challenge number) taken is_caller =
       outcome-later (IsLegalState kinds) s (with_challenge s moment)
       (withdrawal_step (challenge_under s.challenges id number)) legal
       (withdrawn-kept kinds s moment rises within legal id number)
-  command-kept Officer (answer_challenge challenger number accept) is_caller = legal
-  command-kept (Member id) (answer_challenge challenger number accept) is_caller =
+  command-kept Officer (answer_challenge challenger number accept) taken is_caller = legal
+  command-kept (Member id) (answer_challenge challenger number accept) taken is_caller =
       let by = find_id (has_member_name challenger) s.members in
       outcome-later (IsLegalState kinds) s (with_answer s moment accept)
-      (answer_step (challenge_by s.challenges by number) (length s.games) id accept) legal
+      (answer_step s.events (challenge_by s.challenges by number) (length s.games) id accept) legal
       (answered-kept kinds s moment rises within legal by number id accept)
+  command-kept who (new_key name number key) taken is_caller =
+      officer-later (IsLegalState kinds) s (with_members s moment) who (key_step s.members name number key) legal
+      (λ new reply is. member-keyed kinds s moment rises within legal name number key new reply taken
+      (was-keyed s.members name number key new reply is))
+  command-kept who (close_event event) taken is_caller =
+      officer-later (IsLegalState kinds) s (with_events s moment) who (close_step s.events event moment) legal
+      (λ new reply is. event-closed kinds s moment rises within legal event new reply taken
+      (was-closed s.events event moment new reply is))
 
-  by-kept : (who : Option Caller) (command : Command) → ((c : Caller) → who ≡ Some c → IsCallerIn s.members c)
+  by-kept : (who : Option Caller) (command : Command) → IsTrue (takes s command)
+      → ((c : Caller) → who ≡ Some c → IsCallerIn s.members c)
       → IsLegalState kinds (state_after s (step_by kinds s moment who command))
-  by-kept None command are = legal
-  by-kept (Some who) command are = command-kept who command (are who refl)
+  by-kept None command taken are = legal
+  by-kept (Some who) command taken are = command-kept who command taken (are who refl)
 
 module _ {DP DM DE DT SP SM SE ST : Type 0} (kinds : ClubRules DP DM DE DT SP SM SE ST)
     (are_draughts : AreRules kinds.draughts) (are_shogi : AreRules kinds.shogi) (by_import : KeepsByImport kinds) where
-  pub next-legal : (s : State DM SM) (r : Request) → r.moment ≤ last_moment → IsLegalState kinds s
-      → IsLegalState kinds (next kinds s r)
-  next-legal s r within legal =
+  pub next-legal : (s : State DM SM) (r : Request) → r.moment ≤ last_moment → IsTrue (takes s r.command)
+      → IsLegalState kinds s → IsLegalState kinds (next kinds s r)
+  next-legal s r within taken legal =
       by-kept kinds are_draughts are_shogi by_import s (max r.moment s.last) (omega arith) (let before = legal.last in
-      omega (arith, within, before)) legal (caller_of s.members r.who) r.command
+      omega (arith, within, before)) legal (caller_of s.members r.who) r.command taken
       (λ c. is-caller s.members r.who c)

@@ -1,12 +1,15 @@
 pub mod Accepts
 pub mod AddedSteps
+pub mod ArbiterSteps
 pub mod Challenged
 pub mod Folds
 pub mod GameSteps
 pub mod ImportRepeats
 pub mod ImportSteps
 pub mod ImportedGames
+pub mod KeyOwners
 pub mod Later
+pub mod LaterParts
 pub mod LegalSteps
 pub mod Lists
 pub mod Offers

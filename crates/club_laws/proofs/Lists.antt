@@ -92,6 +92,10 @@ module _ {A : Type 0} where
   each-append P xs y each new =
       λ n x at. elim (got-append xs y n x at) [ inl old ↦ each n x old | inr is ↦ rw (← is.1) new ]
 
+  pub each-set : (P : A → Type 0) (xs : List A) (i : ℕ) (y : A) → Each P xs → P y → Each P (slice_set xs i y)
+  each-set P xs i y each new =
+      λ n x at. elim (got-set xs i y n x at) [ inl old ↦ each n x old | inr is ↦ rw (← is.1) new ]
+
   -- what has an id in a list has the next one behind one element more
   pub place-more : (x y : A) (xs : List A) (id : ℕ) → place xs id ≡ Some y → place (x ∷ xs) (suc id) ≡ Some y
   place-more x y xs zero at = cc
@@ -220,6 +224,22 @@ module _ {A B : Type 0} (part : A → Option B) where
           | inr is_j ↦ is_i.0 ∙ sym is_j.0
         ]
       ]
+
+-- an element is changed, and not the part that no two have alike
+pub apart-set : {A B : Type 0} (part : A → B) (xs : List A) (i : ℕ) (old new : A) → slice_get xs i ≡ Some old
+    → part new ≡ part old → HaveUniqueKeys part xs → HaveUniqueKeys part (slice_set xs i new)
+apart-set {A} part xs i old new stood same apart j k a b at_j at_k alike =
+    let (x, at_x, is_x) = before j a at_j in
+    let (y, at_y, is_y) = before k b at_k in
+    apart j k x y at_x at_y (is_x ∙ (alike ∙ sym is_y))
+  where
+    before : (n : ℕ) (x : A) → slice_get (slice_set xs i new) n ≡ Some x → (y : A) × (slice_get xs n ≡ Some y)
+        × (part y ≡ part x)
+    before n x at =
+        elim (got-set xs i new n x at) [
+          | inl stays ↦ (x, stays, refl)
+          | inr put ↦ (old, ap (slice_get xs) put.0 ∙ stood, sym same ∙ ap part put.1)
+        ]
 
 pub are_apart-append : {A B : Type 0} (part : A → B) (xs : List A) (y : A) → HaveUniqueKeys part xs
     → ((n : ℕ) (x : A) → slice_get xs n ≡ Some x → part x ≡ part y → ⊥) → HaveUniqueKeys part (xs ++ y ∷ [])

@@ -21,11 +21,11 @@ use Rattle.club_core.specs.LegalState.{IsGameOf, IsLegalIn, IsLegalState}
 use Rattle.club_core.specs.Step.{offer_draw, has_offer, is_over, is_next_ply, step_offer, game_step}
 use Rattle.club_core.specs.State.{AnyGame, draughts, shogi, State, on_game, Request, place, terms_at}
 use Rattle.club_core.specs.State.{with_game, caller_of, step_game, step, fold}
-use Rattle.club_laws.specs.Laws.{HasNextPly, passed_offer, is_over_in}
+use Rattle.club_laws.specs.Laws.{HasNextPly, IsSentAgain, passed_offer, is_over_in}
 use Rattle.club_laws.proofs.GameSteps.{IsLaterGame}
 use Rattle.club_laws.proofs.LegalSteps.{in-place}
 use Rattle.club_laws.proofs.Later.{IsLater, IsLaterAny, fold-later}
-use Rattle.club_laws.proofs.Repeats.{stands-later, same-caller, accepted-later, by-accepted}
+use Rattle.club_laws.proofs.Repeats.{stands-later, by-accepted}
 
 -- an offer at the next ply is none of another ply
 no-offer : (o : Option Offer) (next : ℕ) (side : Side) (ply : ℕ) → IfSome o (λ offer. offer.ply ≡ next) → ply ≢ next
@@ -97,17 +97,17 @@ module _ {DP DM DE DT SP SM SE ST : Type 0} (kinds : ClubRules DP DM DE DT SP SM
       (λ ply g e. e) s t moment again id who ply game after reply legal at is since other in
       rw stands so
 
-  pub offers-passed : (s after : State DM SM) (r : Request) (id ply : ℕ) (reply : Reply) (between : List Request)
-      (moment : ℕ) → IsLegalState kinds s → IsLegalState kinds (fold kinds after between)
+  pub offers-passed : (s after : State DM SM) (r again : Request) (id ply : ℕ) (reply : Reply)
+      (between : List Request) → IsLegalState kinds s → IsLegalState kinds (fold kinds after between)
       → r.command ≡ on_game id (offer_draw ply) → step kinds s r ≡ accepted after reply
-      → ¬ HasNextPly ply (place (fold kinds after between).games id)
-      → step kinds (fold kinds after between) (record r { moment = moment })
+      → IsSentAgain s (fold kinds after between) r again
+      → ¬ HasNextPly ply (place (fold kinds after between).games id) → step kinds (fold kinds after between) again
       ≡ refused (passed_offer (is_over_in kinds (place (fold kinds after between).games id)))
-  offers-passed s after r id ply reply between moment legal later_legal asks is other =
+  offers-passed s after r again id ply reply between legal later_legal asks is sent other =
       let t = fold kinds after between in
-      let to_t = accepted-later kinds s after r reply between is in
       let (who, who_is, step_is) = by-accepted kinds s after (max r.moment s.last) (on_game id (offer_draw ply)) reply
       (caller_of s.members r.who) (rw asks at is) in
-      rw (asks, same-caller s.members t.members r.who who to_t.members who_is)
-      (in-game s t (max r.moment s.last) (max moment t.last) id who ply (place s.games id) after reply later_legal refl
+      rw (sent.command, asks, sent.caller, who_is)
+      (in-game s t (max r.moment s.last) (max again.moment t.last) id who ply (place s.games id) after reply later_legal
+      refl
       step_is (fold-later kinds after between) other)

@@ -2,7 +2,7 @@
 use Rattle.std.proofs.Common.{◌≡◌, ℕ, suc, ◌+◌, ◌-◌, ◌≤◌, List, [], ◌∷◌, ◌++◌, length, map, take, Option, Some, None}
 use Rattle.std.proofs.Common.{Result, Ok, Err, Bool, true, false, ◌&&◌, ◌||◌, refl, ap, sym, ◌∙◌, arith, length-append}
 use Rattle.std.proofs.Common.{add-one}
-use Rattle.std.specs.Prelude.{max, nat_lt, nat_le, ◌==◌, if◌then◌else◌}
+use Rattle.std.specs.Prelude.{max, nat_lt, nat_le, ◌==◌, if◌then◌else◌, slice_set}
 use Rattle.std.specs.Cmp.{booleans_Decides}
 use Rattle.std.specs.Cmp.Derive.{both_true}
 use Rattle.std.specs.Option.{option_map}
@@ -28,8 +28,10 @@ use Rattle.club_requests.specs.declared.requests.Caller.{Caller}
 use Rattle.club_requests.specs.declared.requests.Caller.TheVariants.{Officer, Member}
 use Rattle.club_requests.specs.Outcome.{Reply, member_added, event_added, Outcome, accepted, repeated, map_outcome}
 use Rattle.club_requests.specs.Outcome.{by_officer, first_refusal, unless, unless_repeat}
-use Rattle.club_core.specs.Members as members
+use Rattle.club_requests.specs.Limits.{is_member_key}
 use Rattle.club_core.specs.Members.{find_id, is_member, member_tests, member_step}
+use Rattle.club_core.specs.Keys.{is_key_number, with_key, key_step}
+use Rattle.club_core.specs.Closings.{closed_at, close_step}
 use Rattle.club_core.specs.Events.{Terms, Event, event_kind, same_game, is_event, has_event_name, event_tests}
 use Rattle.club_core.specs.Events.{declaring}
 use Rattle.club_core.specs.Seats.{has_member_name, seat_step}
@@ -42,24 +44,28 @@ use Rattle.club_core.specs.Step.{asked_ply, caller_side, is_over, is_next_ply, h
 use Rattle.club_core.specs.Step.{checked, checked_as}
 use Rattle.club_core.specs.Step.{reads_as, repeats, side_step, game_step, repeat_of, reply_of_move, move_at}
 use Rattle.club_core.specs.State.{AnyGame, draughts, shogi, State, Command, add_member, add_event, seat, import_record}
-use Rattle.club_core.specs.State.{on_game, sweep, open_challenge, withdraw_challenge, answer_challenge, Who, officer}
-use Rattle.club_core.specs.State.{key_holder, Request, state_after, place, terms_at, is_key, game_under}
-use Rattle.club_core.specs.State.{seated_as, kind_at, caller_of, caller_found, has_member_key, with_members}
+use Rattle.club_core.specs.State.{on_game, sweep, open_challenge, withdraw_challenge, answer_challenge, new_key}
+use Rattle.club_core.specs.State.{close_event}
+use Rattle.club_core.specs.State.{Request, state_after, place, terms_at, is_key, game_under}
+use Rattle.club_core.specs.State.{seated_as, kind_at, caller_of, with_members}
 use Rattle.club_core.specs.State.{with_events}
 use Rattle.club_core.specs.State.{with_new_game, with_imported, with_game, with_challenge, challenge_game, with_answer}
 use Rattle.club_core.specs.State.{import_as, step_game, step_command, step_by, step, next, fold}
 use Rattle.club_core.specs.LegalState.{IsGameOf, IsLegalIn, IsLegalState}
 use Rattle.club_core.proofs.Proved.{AreRules, turn-of-game, made-played, take-before, take-whole}
-use Rattle.club_laws.specs.Laws.{HasNextPly, StillRepeats, StillRepeatsOn}
-use Rattle.club_laws.proofs.Lists.{bytes_eq-same, find_id-new, place-append, get-append, place-set}
+use Rattle.club_laws.specs.Laws.{HasNextPly, StillRepeats, StillRepeatsOn, IsSentAgain}
+use Rattle.club_laws.proofs.Lists.{both-true, bytes_eq-same, find_id-new, get-append, place-set, put-at}
 use Rattle.club_laws.proofs.LegalSteps.{in-place}
 use Rattle.club_laws.proofs.Accepts.{unless-accepted, accepted-same, map-accepted, officer-accepted}
 use Rattle.club_laws.proofs.PutChallenges.{under-key, key-under, under-same, under-found, under-put}
 use Rattle.club_laws.proofs.Challenged.{IsLaterChallenge, answered_as, was-opened, was-withdrawn, was-answered}
-use Rattle.club_laws.proofs.GameSteps.{Begins, IsLaterGame, later-game-trans, ended-over, Finds, Leaves, WasGiven}
+use Rattle.club_laws.proofs.GameSteps.{IsLaterGame, later-game-trans, ended-over, Finds, Leaves, WasGiven}
 use Rattle.club_laws.proofs.GameSteps.{was-given, same-event, same-side, is-next}
-use Rattle.club_laws.proofs.SeatSteps.{find-later, was-seated, seated-key, seated-pairing, seats-again}
+use Rattle.club_laws.proofs.SeatSteps.{was-seated, seated-key, seated-pairing, seats-again}
 use Rattle.club_laws.proofs.Later.{IsLater, IsLaterAny, later-trans, place-later, next-later, fold-later}
+use Rattle.club_laws.proofs.LaterParts.{IsEachLater, find-later, place-each-later, IsLaterMember, named-later}
+use Rattle.club_laws.proofs.LaterParts.{same-member-later, IsLaterEvent, event-named-later, same-event-later}
+use Rattle.club_laws.proofs.ArbiterSteps.{was-keyed, key-there, was-closed}
 
 none-found : (f : ℕ → Reply) (o : Option ℕ) → option_map f o ≡ None → o ≡ None
 none-found f None is = refl
@@ -70,21 +76,22 @@ same_game-refl Draughts = refl
 same_game-refl Shogi = refl
 
 -- what the officer added at the end of a list is found in each list that begins so, and repeated
-added-again : {S T A : Type 0} (f : List A → S) (g : List T → S) (who : Caller) (test : A → Bool) (answer : ℕ → Reply)
+added-again : {S T A : Type 0} (IsLaterOne : A → A → Type 0) (f : List A → S) (g : List T → S) (who : Caller)
+    (test : A → Bool) (alike : (x y : A) → IsLaterOne x y → test y ≡ test x) (answer : ℕ → Reply)
     (tests : List (Bool × Refusal)) (all now : List A) (new : A) (after : S) (reply : Reply) → test new ≡ true
     → by_officer who
     (map_outcome f
     (unless_repeat (option_map answer (find_id test all))
     (unless (first_refusal tests) (accepted (all ++ new ∷ []) (answer (length all + 1))))))
-    ≡ accepted after reply → ((xs : List A) → f xs ≡ after → Begins xs now) → (x : Outcome (List T))
+    ≡ accepted after reply → ((xs : List A) → f xs ≡ after → IsEachLater IsLaterOne xs now) → (x : Outcome (List T))
     → by_officer who (map_outcome g (unless_repeat (option_map answer (find_id test now)) x)) ≡ repeated reply
-added-again f g who test answer tests all now new after reply itself is begins x =
+added-again IsLaterOne f g who test alike answer tests all now new after reply itself is later x =
     let by = officer-accepted who _ after reply is in
     let (xs, step_is, after_is) = map-accepted f _ after reply by.1 in
     let added = unless-accepted (option_map answer (find_id test all)) (first_refusal tests) _ xs reply step_is in
     let stands = accepted-same (all ++ new ∷ []) xs (answer (length all + 1)) reply added.2 in
     let found : find_id test now ≡ Some (length all + 1) =
-    find-later test (all ++ new ∷ []) now _ (begins (all ++ new ∷ []) (ap f stands.0 ∙ after_is))
+    find-later IsLaterOne test alike (all ++ new ∷ []) now _ (later (all ++ new ∷ []) (ap f stands.0 ∙ after_is))
     (find_id-new test all new (none-found answer (find_id test all) added.0) itself) in
     rw (by.0, found, stands.1) refl
 
@@ -246,12 +253,12 @@ module _ {DP DM DE DT SP SM SE ST P M E T : Type 0} (kinds : ClubRules DP DM DE 
     pub since : IsLaterGame laws new later
     pub event : later.event ≡ game.event
     pub of_side : caller_side later.first later.second who (asked_ply command) ≡ Some was.side
-    pub events : Begins s.events t.events
+    pub events : IsEachLater IsLaterEvent s.events t.events
 
   stands-as : (who : Caller) (command : GameCommand) (reply : Reply) (new : Game M) (any : AnyGame DM SM)
       (later : Game M) → WasGiven laws (terms_at (place s.events game.event)) game moment who command new reply
-      → place t.games id ≡ Some any → any ≡ wrap later → IsLaterGame laws new later → Begins s.events t.events
-      → StandsLater who command reply
+      → place t.games id ≡ Some any → any ≡ wrap later → IsLaterGame laws new later
+      → IsEachLater IsLaterEvent s.events t.events → StandsLater who command reply
   stands-as who command reply new any later was stands any_is since events =
       let now = later-game-trans laws game new later was.later since in
       record {
@@ -300,9 +307,10 @@ module _ {DP DM DE DT SP SM SE ST P M E T : Type 0} (kinds : ClubRules DP DM DE 
       let there = stands-later kinds laws wrap unwrap s t moment id game who command after reply at is since in
       let later = there.later in
       let terms = terms_at (place s.events game.event) in
-      let found : place t.events game.event ≡ Some of.event =
-      rw there.events.1 (place-append s.events there.events.0 game.event of.event of.in_event) in
-      let terms_now : terms_at (place t.events later.event) ≡ terms = rw (there.event, found, of.in_event) refl in
+      let (event, found, is_later) = place-each-later IsLaterEvent s.events t.events there.events game.event of.event
+      of.in_event in
+      let same : event.terms ≡ of.event.terms = ap (λ e. e.terms) is_later.same in
+      let terms_now : terms_at (place t.events later.event) ≡ terms = rw (there.event, found, of.in_event) same in
       let repeats = side-again laws are_rules terms game of.legal.line.legal moment again there.was.side command
       there.new
       reply there.was.found there.was.left later there.since
@@ -317,19 +325,6 @@ module _ {DP DM DE DT SP SM SE ST : Type 0} (kinds : ClubRules DP DM DE DT SP SM
       ≡ accepted after reply → IsLater kinds s t → IsLater kinds after t
       → by_officer who (import_as kinds t again given (event_kind t.events given.event)) ≡ repeated reply
 
-found-later : (o : Option ℕ) (who : Caller) → caller_found o ≡ Some who → (id : ℕ) × (o ≡ Some id)
-    × (Member id ≡ who)
-found-later None who is = cc
-found-later (Some id) who is = (id, refl, cc)
-
-pub same-caller : (all more : List members.Member) (w : Who) (who : Caller) → Begins all more
-    → caller_of all w ≡ Some who
-    → caller_of more w ≡ Some who
-same-caller all more officer who begins is = is
-same-caller all more (key_holder key) who begins is =
-    let (id, found, member) = found-later (find_id (has_member_key key) all) who is in
-    rw (find-later (has_member_key key) all more id begins found, member) refl
-
 module _ {DP DM DE DT SP SM SE ST : Type 0} (kinds : ClubRules DP DM DE DT SP SM SE ST)
     (are_draughts : AreRules kinds.draughts) (are_shogi : AreRules kinds.shogi) (import_again : RepeatsImport kinds)
     (s t : State DM SM) (moment again : ℕ) (after : State DM SM) (reply : Reply) (legal : IsLegalState kinds s)
@@ -341,16 +336,17 @@ module _ {DP DM DE DT SP SM SE ST : Type 0} (kinds : ClubRules DP DM DE DT SP SM
 
   member-again : (who : Caller) (name key : List ℕ) → Again who (add_member name key)
   member-again who name key is =
-      added-again (with_members s moment) (with_members t again) who (is_member name key) member_added
-      (member_tests s.members name key) s.members t.members (record { name = name; key = key }) after reply
+      added-again IsLaterMember (with_members s moment) (with_members t again) who (is_member name key)
+      (same-member-later name key) member_added (member_tests s.members name key) s.members t.members
+      (record { name = name; key = key; later = [] }) after reply
       (both_true (bytes_eq-same name name refl) (bytes_eq-same key key refl)) is
       (λ xs same. rw (ap (λ u. u.members) same) since.members) _
 
   event-again : (who : Caller) (event : Event) → Again who (add_event event)
   event-again who event is =
       let terms = event.terms in
-      added-again (with_events s moment) (with_events t again) who (is_event event) event_added
-      (event_tests s.events event) s.events t.events (declaring event) after reply
+      added-again IsLaterEvent (with_events s moment) (with_events t again) who (is_event event)
+      (same-event-later event) event_added (event_tests s.events event) s.events t.events (declaring event) after reply
       (both_true
       (both_true (both_true (bytes_eq-same event.name event.name refl) (same_game-refl event.game))
       (eq-eqb terms.budget terms.budget refl)) (eq-eqb terms.increment terms.increment refl)) is
@@ -378,14 +374,14 @@ module _ {DP DM DE DT SP SM SE ST : Type 0} (kinds : ClubRules DP DM DE DT SP SM
       let (new, step_is, after_is) = map-accepted (with_challenge s moment)
       (opening_step s.members s.events (challenge_under s.challenges id number) id number event other first) after
       reply is in
-      let was = was-opened id number (find_id (has_event_name event) s.events)
+      let was = was-opened s.events id number (find_id (has_event_name event) s.events)
       (find_id (has_member_name other) s.members) first (challenge_under s.challenges id number) new reply step_is in
       let from : IsLater kinds (with_challenge s moment new) t = rw (← after_is) at since in
       let (c, stands, is_later) = put-later kinds s t moment new from in
       let in_event : find_id (has_event_name event) t.events ≡ Some new.event =
-      find-later _ s.events t.events _ from.events was.in_event in
+      event-named-later event s.events t.events _ from.events was.in_event in
       let to_member : find_id (has_member_name other) t.members ≡ Some new.other =
-      find-later _ s.members t.members _ from.members was.to_member in
+      named-later other s.members t.members _ from.members was.to_member in
       let found : challenge_under t.challenges id number ≡ Some c =
       under-same t.challenges _ _ id number c was.by_caller was.has_number stands in
       let (same, numbered) = asks-again number first new c was.has_number was.has_sides is_later.asks in
@@ -406,19 +402,20 @@ module _ {DP DM DE DT SP SM SE ST : Type 0} (kinds : ClubRules DP DM DE DT SP SM
   answer-again challenger number id accept is =
       let by = find_id (has_member_name challenger) s.members in
       let (new, step_is, after_is) = map-accepted (with_answer s moment accept)
-      (answer_step (challenge_by s.challenges by number) (length s.games) id accept) after reply is in
-      let was = was-answered s.challenges by number (length s.games) id accept new reply step_is in
+      (answer_step s.events (challenge_by s.challenges by number) (length s.games) id accept) after reply is in
+      let was = was-answered s.events s.challenges by number (length s.games) id accept new reply step_is in
       let from : IsLater kinds (with_answer s moment accept (standing_as was.old (answered_as (length s.games) accept)))
       t = rw (← after_is, ← was.stands) at since in
       let (found, members) = closed accept was.member was.old was.found from in
       let by_now : find_id (has_member_name challenger) t.members ≡ Some was.member =
-      find-later _ s.members t.members _ members was.by_member in
+      named-later challenger s.members t.members _ members was.by_member in
       rw (by_now, found, was.to_caller, was.answer) refl
     where
       closed : (accept : Bool) (member : ℕ) (old : Challenge) → challenge_under s.challenges member number ≡ Some old
           → IsLater kinds (with_answer s moment accept (standing_as old (answered_as (length s.games) accept))) t
           → (challenge_under t.challenges member number
-          ≡ Some (standing_as old (answered_as (length s.games) accept))) × Begins s.members t.members
+          ≡ Some (standing_as old (answered_as (length s.games) accept)))
+          × IsEachLater IsLaterMember s.members t.members
       closed false member old found from =
           (closed-stays kinds s t moment member number old _ found refl from, from.members)
       closed true member old found from = (
@@ -426,6 +423,37 @@ module _ {DP DM DE DT SP SM SE ST : Type 0} (kinds : ClubRules DP DM DE DT SP SM
             refl from,
         from.members,
       )
+
+  -- the key stands under its number in every later state
+  key-again : (who : Caller) (name : List ℕ) (number : ℕ) (key : List ℕ) → Again who (new_key name number key)
+  key-again who name number key is =
+      let by = officer-accepted who _ after reply is in
+      let (new, step_is, after_is) = map-accepted (with_members s moment) (key_step s.members name number key) after
+      reply by.1 in
+      let was = was-keyed s.members name number key new reply step_is in
+      let keyed = with_key was.member key in
+      let i = was.id - 1 in
+      let from : IsLater kinds (with_members s moment (slice_set s.members i keyed)) t =
+      rw (← after_is, ← was.stands) at since in
+      let (now, at, is_later) = from.members i keyed (put-at s.members i was.member keyed was.stood) in
+      let found = named-later name s.members t.members was.id to_t.members was.found in
+      let good = both-true (is_member_key key) (is_key_number was.member number) (not-false _ was.tests.1.1.0) in
+      rw (by.0, found, at, key-there was.member now number key was.tests.0 good.1 is_later, was.answer) refl
+
+  -- a closed event stays closed
+  close-again : (who : Caller) (event : List ℕ) → Again who (close_event event)
+  close-again who event is =
+      let by = officer-accepted who _ after reply is in
+      let (new, step_is, after_is) = map-accepted (with_events s moment) (close_step s.events event moment) after reply
+      by.1 in
+      let was = was-closed s.events event moment new reply step_is in
+      let closed = closed_at was.event moment in
+      let i = was.id - 1 in
+      let from : IsLater kinds (with_events s moment (slice_set s.events i closed)) t =
+      rw (← after_is, ← was.stands) at since in
+      let (now, at, is_later) = from.events i closed (put-at s.events i was.event closed was.stood) in
+      let found = event-named-later event s.events t.events was.id to_t.events was.found in
+      rw (by.0, found, at, is_later.closed refl, was.answer) refl
 
   on-game-again : (id : ℕ) (who : Caller) (command : GameCommand) (g : Option (AnyGame DM SM)) → place s.games id ≡ g
       → step_game kinds s moment id who command g ≡ accepted after reply → StillRepeatsOn (place t.games id) command
@@ -459,6 +487,8 @@ module _ {DP DM DE DT SP SM SE ST : Type 0} (kinds : ClubRules DP DM DE DT SP SM
   command-again Officer (answer_challenge challenger number accept) still is = cc
   command-again (Member id) (answer_challenge challenger number accept) still is =
       answer-again challenger number id accept is
+  command-again who (new_key name number key) still is = key-again who name number key is
+  command-again who (close_event event) still is = close-again who event is
 
 module _ {DP DM DE DT SP SM SE ST : Type 0} (kinds : ClubRules DP DM DE DT SP SM SE ST) where
   -- what stands after an accepted request and those after it is later than what stood before
@@ -477,15 +507,17 @@ module _ {DP DM DE DT SP SM SE ST : Type 0} (kinds : ClubRules DP DM DE DT SP SM
   by-accepted s after moment command reply (Some who) is = (who, refl, is)
 
   pub answers-again : AreRules kinds.draughts → AreRules kinds.shogi → RepeatsImport kinds → (s after : State DM SM)
-      (r : Request) (reply : Reply) (between : List Request) (moment : ℕ) → IsLegalState kinds s
-      → step kinds s r ≡ accepted after reply → StillRepeats (fold kinds after between) r.command
-      → step kinds (fold kinds after between) (record r { moment = moment }) ≡ repeated reply
-  answers-again are_draughts are_shogi import_again s after r reply between moment legal is still =
+      (r again : Request) (reply : Reply) (between : List Request) → IsLegalState kinds s
+      → step kinds s r ≡ accepted after reply → IsSentAgain s (fold kinds after between) r again
+      → StillRepeats (fold kinds after between) r.command
+      → step kinds (fold kinds after between) again ≡ repeated reply
+  answers-again are_draughts are_shogi import_again s after r again reply between legal is sent still =
       let t = fold kinds after between in
       let to_t = accepted-later s after r reply between is in
       let (who, who_is, step_is) = by-accepted s after (max r.moment s.last) r.command reply
       (caller_of s.members r.who) is
       in
-      rw (same-caller s.members t.members r.who who to_t.members who_is)
-      (command-again kinds are_draughts are_shogi import_again s t (max r.moment s.last) (max moment t.last) after reply
+      rw (sent.command, sent.caller, who_is)
+      (command-again kinds are_draughts are_shogi import_again s t (max r.moment s.last) (max again.moment t.last)
+      after reply
       legal to_t (fold-later kinds after between) who r.command still step_is)

@@ -18,19 +18,14 @@ use Rattle.club_core.specs.Seats.{has_member_name, same_seats, are_distinct, sea
 use Rattle.club_core.specs.State.{AnyGame, State, place, has_key, is_key, key_of, pairing_of, keyed_at, game_under}
 use Rattle.club_core.specs.State.{seated_as, with_imported}
 use Rattle.club_core.proofs.Proved.{none-holds, not-some}
-use Rattle.club_laws.proofs.Lists.{both-true, find_id-found, find_id-none, find_id-append, find_id-new}
+use Rattle.club_laws.proofs.Lists.{both-true, find_id-found, find_id-none, find_id-new}
 use Rattle.club_laws.proofs.Lists.{find_id-pointwise, at-last}
 use Rattle.club_laws.proofs.Accepts.{unless-accepted, accepted-same}
-use Rattle.club_laws.proofs.GameSteps.{Begins}
 use Rattle.club_laws.proofs.Later.{IsLater, key-later, pairing-later}
+use Rattle.club_laws.proofs.LaterParts.{event-named-later, named-later}
 
 pub nat_le-false : (a b : ℕ) → nat_le a b ≡ false → b < a
 nat_le-false a b is = grind (arith, nat_tests)
-
--- what is found is found later
-pub find-later : {A : Type 0} (test : A → Bool) (xs ys : List A) (id : ℕ) → Begins xs ys → find_id test xs ≡ Some id
-    → find_id test ys ≡ Some id
-find-later test xs ys id begins is = rw begins.1 (find_id-append test xs begins.0 id is)
 
 -- a seating that was accepted found its event and its members, no game under its key, and room for one
 pub record WasSeated (event first second : Option ℕ) (under_key : Option KeyedGame) (games : ℕ) (key : List ℕ)
@@ -133,13 +128,13 @@ module _ {DP DM DE DT SP SM SE ST : Type 0} (kinds : ClubRules DP DM DE DT SP SM
       let next_id : length s.games + 1 ≡ suc (length s.games) = add-one (length s.games) in
       let stands : place t.games (length s.games + 1) ≡ Some game = rw next_id at in
       let has_first : find_id (has_member_name first) t.members ≡ Some pairing.first =
-      find-later _ s.members t.members _ later.members was.has_first in
+      named-later first s.members t.members _ later.members was.has_first in
       let has_second : find_id (has_member_name second) t.members ≡ Some pairing.second =
-      find-later _ s.members t.members _ later.members was.has_second in
+      named-later second s.members t.members _ later.members was.has_second in
       let seats : (pairing.event == pairing.event && pairing.first == pairing.first && pairing.second == pairing.second)
       ≡ true =
       both_true (both_true (eq-eqb pairing.event pairing.event refl) (eq-eqb pairing.first pairing.first refl))
       (eq-eqb pairing.second pairing.second refl) in (
-        find-later _ s.events t.events _ later.events was.in_event,
+        event-named-later event s.events t.events _ later.events was.in_event,
         rw (has_first, has_second, added-found, stands, same, seats, was.answer) refl,
       )

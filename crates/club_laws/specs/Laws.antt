@@ -1,13 +1,17 @@
 -- Properties of the club's state machine.
-use Rattle.std.specs.Prelude.{◌≡◌, ◌≤◌, ◌+◌, ℕ, List, length, Option, Some, None, Bool, true, false}
+use Rattle.std.specs.Prelude.{◌≡◌, ◌≤◌, ◌+◌, ◌==◌, ℕ, List, length, Option, Some, None, Bool, true, false, IsTrue}
+use Rattle.std.specs.Prelude.{if◌then◌else◌, slice_get}
 use Rattle.club_core.specs.ClubRules.{ClubRules}
 use Rattle.club_requests.specs.Limits.{last_moment}
 use Rattle.club_requests.specs.Outcome.{Reply, accepted, repeated, refused}
 use Rattle.club_requests.specs.declared.refusals.Refusal.{Refusal}
 use Rattle.club_requests.specs.declared.refusals.Refusal.TheVariants.{GameOver, WrongPly}
+use Rattle.club_requests.specs.declared.requests.Caller.TheVariants as caller
+use Rattle.club_core.specs.Members as members
+use Rattle.club_core.specs.Members.{keys_of}
 use Rattle.club_core.specs.Step.{GameCommand, offer_draw, is_over}
 use Rattle.club_core.specs.State.{AnyGame, draughts, shogi, State, Command, on_game, sweep, Request, place}
-use Rattle.club_core.specs.State.{is_accepted, step, next, fold, accepted_of}
+use Rattle.club_core.specs.State.{caller_of, key_holder, takes, is_accepted, step, next, fold, accepted_of}
 use Rattle.club_core.specs.LegalState.{IsLegalState}
 
 -- the command can still be repeated: a draw offer is still for the next ply, and the command is no sweep
@@ -29,6 +33,11 @@ module _ {DM SM : Type 0} where
   StillRepeats s sweep = ⊥
   StillRepeats s _ = Unit {0}
 
+  -- a request gives the command of an earlier one, and its caller now is the caller of then
+  pub record IsSentAgain (before now : State DM SM) (earlier again : Request) : Type 0 where
+    pub command : again.command ≡ earlier.command
+    pub caller : caller_of now.members again.who ≡ caller_of before.members earlier.who
+
 -- the refusal of a draw offer that is sent again after a later move, given whether the game is over
 abbrev pub passed_offer : Bool → Refusal
 passed_offer true = GameOver
@@ -47,19 +56,28 @@ module _ {DP DM DE DT SP SM SE ST : Type 0} (rules : ClubRules DP DM DE DT SP SM
   abbrev pub TimestampsNeverDecrease : Type 0
   TimestampsNeverDecrease = (s : State DM SM) (r : Request) → s.last ≤ (next rules s r).last
 
-  -- a request with a valid timestamp keeps a legal state legal
+  -- a request with a valid timestamp, whose command the club takes, keeps a legal state legal
   abbrev pub KeepsLegal : Type 0
   KeepsLegal =
-      (s : State DM SM) (r : Request) → r.moment ≤ last_moment → IsLegalState rules s →
+      (s : State DM SM) (r : Request) → r.moment ≤ last_moment → IsTrue (takes s r.command) → IsLegalState rules s →
       IsLegalState rules (next rules s r)
 
-  -- Idempotence: an accepted command, sent again by the same caller at any time and after any requests, is repeated
-  -- with the same reply. A draw offer is repeated until the next move, a sweep never, every other command always.
+  -- the newest key of a member is that of the member, an earlier one nobody's
+  abbrev pub KeysIdentify : Type 0
+  KeysIdentify =
+      (s : State DM SM) (id n : ℕ) (m : members.Member) (key : List ℕ) → IsLegalState rules s →
+      place s.members id ≡ Some m → slice_get (keys_of m) n ≡ Some key →
+      caller_of s.members (key_holder key) ≡ (if n == length m.later then Some (caller.Member id) else None)
+
+  -- Idempotence: an accepted command, sent again by the same caller under the key of that time, at any time and after
+  -- any requests, is repeated with the same reply. A draw offer is repeated until the next move, a sweep never, every
+  -- other command always.
   abbrev pub IsIdempotent : Type 0
   IsIdempotent =
-      (s after : State DM SM) (r : Request) (reply : Reply) (between : List Request) (moment : ℕ) →
-      IsLegalState rules s → step rules s r ≡ accepted after reply → StillRepeats (fold rules after between) r.command →
-      step rules (fold rules after between) (record r { moment = moment }) ≡ repeated reply
+      (s after : State DM SM) (r again : Request) (reply : Reply) (between : List Request) →
+      IsLegalState rules s → step rules s r ≡ accepted after reply →
+      IsSentAgain s (fold rules after between) r again → StillRepeats (fold rules after between) r.command →
+      step rules (fold rules after between) again ≡ repeated reply
 
   -- the game exists and is over
   abbrev pub is_over_in : Option (AnyGame DM SM) → Bool
@@ -71,9 +89,10 @@ module _ {DP DM DE DT SP SM SE ST : Type 0} (rules : ClubRules DP DM DE DT SP SM
   -- because of its ply.
   abbrev pub RefusesPassedOffers : Type 0
   RefusesPassedOffers =
-      (s after : State DM SM) (r : Request) (id ply : ℕ) (reply : Reply) (between : List Request) (moment : ℕ) →
+      (s after : State DM SM) (r again : Request) (id ply : ℕ) (reply : Reply) (between : List Request) →
       IsLegalState rules s → IsLegalState rules (fold rules after between) →
       r.command ≡ on_game id (offer_draw ply) → step rules s r ≡ accepted after reply →
+      IsSentAgain s (fold rules after between) r again →
       ¬ HasNextPly ply (place (fold rules after between).games id) →
-      step rules (fold rules after between) (record r { moment = moment })
+      step rules (fold rules after between) again
       ≡ refused (passed_offer (is_over_in (place (fold rules after between).games id)))

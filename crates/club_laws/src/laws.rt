@@ -9,7 +9,7 @@ ghost use Rattle.club_core.specs.Game.{Game};
 ghost use Rattle.club_core.specs.Legal.{IsLegalGame};
 ghost use Rattle.club_core.specs.View.{Shows, ShowsPly, IsSound, terms_of};
 ghost use Rattle.club_laws.specs.Laws.{FoldsAccepted, LeavesState, TimestampsNeverDecrease, KeepsLegal, IsIdempotent};
-ghost use Rattle.club_laws.specs.Laws.{RefusesPassedOffers};
+ghost use Rattle.club_laws.specs.Laws.{KeysIdentify, RefusesPassedOffers};
 
 use club_core::GameView;
 use club_rules::{Records, Rules};
@@ -29,13 +29,19 @@ pub fn timestamps_never_decrease<D: Records, S: Records>()
     ensures { TimestampsNeverDecrease (both D.rules S.rules D.records S.records) }
 {}
 
-/// A request with a valid timestamp (at most `Moment::LAST`) keeps a legal state legal.
+/// A request with a valid timestamp (at most `Moment::LAST`) keeps a legal state legal. A club without an arbiter
+/// takes no command that needs one.
 pub fn requests_keep_legal<D: Records, S: Records>()
     ensures { KeepsLegal (both D.rules S.rules D.records S.records) }
 {}
 
+/// In a legal state the newest key of a member identifies the member, and an earlier key nobody.
+pub fn keys_identify<D: Records, S: Records>()
+    ensures { KeysIdentify (both D.rules S.rules D.records S.records) }
+{}
+
 /// Commands are idempotent: an accepted command, sent again by the same caller, is repeated with the same answer, at
-/// any time and after any other requests.
+/// any time and after any other requests. A member sends it again under the key that the member has then.
 ///
 /// Exceptions are a sweep, and a draw offer after a later move.
 pub fn commands_are_idempotent<D: Records, S: Records>()

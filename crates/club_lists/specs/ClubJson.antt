@@ -1,6 +1,6 @@
 -- The members, events, games and challenges of a club as JSON.
-use Rattle.std.specs.Prelude.{ℕ, suc, List, [], ◌∷◌, map, codes}
-use Rattle.serde_json.specs.Data.{Data, string, object, member, no_members}
+use Rattle.std.specs.Prelude.{ℕ, suc, List, [], ◌∷◌, map, is_some, not, codes}
+use Rattle.serde_json.specs.Data.{Data, boolean, string, object, member, no_members}
 use Rattle.serde_json.specs.Written.{compact_text}
 use Rattle.club_core.specs.declared.challenges.Challenge.{Challenge}
 use Rattle.club_core.specs.Events.{Event}
@@ -24,7 +24,8 @@ members_json members = compact_text (members_data members)
 
 -- ---- events
 
--- the object of the event with this id: its rules, and the numbers of its games and of its running games
+-- the object of the event with this id: its rules, the numbers of its games and of its running games, and whether it
+-- takes challenges
 unfoldable pub event_entry_data : List GameSummary → ℕ → Event → Data
 event_entry_data games id event = object
     (member (codes "budget") (number_data event.terms.budget)
@@ -33,7 +34,8 @@ event_entry_data games id event = object
     (member (codes "games") (number_data (games_of id games))
     (member (codes "id") (number_data id)
     (member (codes "increment") (number_data event.terms.increment)
-    (member (codes "running") (number_data (running_of id games)) no_members)))))))
+    (member (codes "open") (boolean (not (is_some event.closed)))
+    (member (codes "running") (number_data (running_of id games)) no_members))))))))
 
 -- the objects of these events, whose ids count up from this one
 abbrev pub event_entries_from : List GameSummary → ℕ → List Event → List Data

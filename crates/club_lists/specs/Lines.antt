@@ -1,5 +1,5 @@
 -- The lists of a club as lines of text.
-use Rattle.std.specs.Prelude.{◌≡◌, ◌==◌, ◌&&◌, ℕ, suc, not, List, [], ◌∷◌, ◌++◌, codes, decimal}
+use Rattle.std.specs.Prelude.{◌≡◌, ◌==◌, ◌&&◌, ℕ, zero, suc, not, List, [], ◌∷◌, ◌++◌, length, codes, decimal}
 use Rattle.std.specs.Prelude.{Option, Some, None, count_by}
 use Rattle.squares.specs.declared.sides.Side.{Side}
 use Rattle.squares.specs.declared.sides.Side.TheVariants.{First, Second}
@@ -19,9 +19,15 @@ numbered text id (x ∷ xs) = text id x ++ numbered text (suc id) xs
 
 -- ---- members
 
--- `member ID NAME`; keys are never written
+-- the number of a member's present key, which is that of the keys given later; nothing for the first key
+abbrev pub key_tail : ℕ → List ℕ
+key_tail zero = []
+key_tail (suc n) = codes " key " ++ decimal (suc n)
+
+-- `member ID NAME`, or `member ID NAME key NUMBER` if the present key is not the first one; keys are never written
 abbrev pub member_line : ℕ → Member → List ℕ
-member_line id member = codes "member " ++ (decimal id ++ (codes " " ++ (member.name ++ codes "\n")))
+member_line id member =
+    codes "member " ++ (decimal id ++ (codes " " ++ (member.name ++ (key_tail (length member.later) ++ codes "\n"))))
 
 -- the lines of all members, by id
 abbrev pub member_lines : List Member → List ℕ
@@ -46,12 +52,17 @@ games_of event games = count_by (λ told. told.event == event) games
 abbrev pub running_of : ℕ → List GameSummary → ℕ
 running_of event games = count_by (λ told. told.event == event && not (is_over told)) games
 
--- `GAME BUDGET INCREMENT GAMES RUNNING`
+-- the word after an event that was closed to challenges
+abbrev pub closed_tail : Option ℕ → List ℕ
+closed_tail None = []
+closed_tail (Some moment) = codes " closed"
+
+-- `GAME BUDGET INCREMENT GAMES RUNNING`, and `closed` if the event takes no challenges
 abbrev pub event_tail : Event → (games running : ℕ) → List ℕ
 event_tail event games running =
     game_name event.game ++ (codes " " ++ (decimal event.terms.budget ++ (codes " "
     ++ (decimal event.terms.increment ++ (codes " " ++ (decimal games ++ (codes " " ++ (decimal running
-    ++ codes "\n"))))))))
+    ++ (closed_tail event.closed ++ codes "\n")))))))))
 
 -- `event ID NAME`, followed by the tail
 abbrev pub event_text : ℕ → Event → (games running : ℕ) → List ℕ

@@ -1,10 +1,10 @@
 -- Games, events and challenges as members see them, as JSON.
 use Rattle.std.specs.Prelude.{ℕ, ◌-◌, ◌==◌, ◌&&◌, ◌||◌, List, [], ◌∷◌, ◌++◌, length, map, filter, count_by, Bool, true}
-use Rattle.std.specs.Prelude.{false, not, nat_lt, Option, Some, None}
+use Rattle.std.specs.Prelude.{false, not, nat_lt, is_some, Option, Some, None}
 use Rattle.std.specs.Prelude.{codes, if◌then◌else◌}
 use Rattle.std.specs.Option.{option_map}
 use Rattle.std.specs.Str.{bytes_eq}
-use Rattle.serde_json.specs.Data.{Data, string, object, member, no_members}
+use Rattle.serde_json.specs.Data.{Data, boolean, string, object, member, no_members}
 use Rattle.serde_json.specs.Written.{compact_text}
 use Rattle.club_core.specs.declared.challenges.Challenge.{Challenge}
 use Rattle.club_core.specs.declared.challenges.ChallengeState.{ChallengeState}
@@ -60,13 +60,14 @@ event_games_text members events name games = compact_text (event_games_data memb
 
 -- ---- events and opponents for a challenge
 
--- the object of an event
+-- the object of an event, and whether it takes challenges
 unfoldable pub event_data : Event → Data
 event_data event = object
     (member (codes "budget") (number_data event.terms.budget)
     (member (codes "event") (string event.name)
     (member (codes "game") (string (game_name event.game))
-    (member (codes "increment") (number_data event.terms.increment) no_members))))
+    (member (codes "increment") (number_data event.terms.increment)
+    (member (codes "open") (boolean (not (is_some event.closed))) no_members)))))
 
 -- the member has another key
 abbrev pub is_other : List ℕ → Member → Bool

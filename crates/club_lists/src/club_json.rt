@@ -73,6 +73,7 @@ fn event_entry_value(
         "games": games_of(games, id),
         "id": id,
         "increment": event.increment,
+        "open": event.closed.is_none(),
         "running": running_of(games, id)
     })
 }
@@ -101,7 +102,7 @@ fn events_value(alloc: Global, events: &[Event], games: &[GameEntry]) -> Result<
     json!(in alloc; {"events": event_entries(alloc, events, games)?})
 }
 
-/// The events, by id, with the numbers of all and of running games, as a JSON object.
+/// The events, by id, with the numbers of all and of running games and whether they take challenges, as a JSON object.
 ///
 /// # Errors
 ///

@@ -1,12 +1,12 @@
 //! The lists of a club as lines of text.
 
-ghost use Rattle.std.specs.Prelude.{◌≡◌, ◌==◌, IfOk, not, ◌&&◌, string_bytes};
+ghost use Rattle.std.specs.Prelude.{◌≡◌, ◌==◌, IfOk, length, not, ◌&&◌, string_bytes};
 ghost use Rattle.std.specs.Option.{option_map};
-ghost use Rattle.club_core.specs.internal.Answer.{event_of, members_of, events_of};
+ghost use Rattle.club_core.specs.internal.Answer.{event_of, events_of, member_of, members_of};
 ghost use Rattle.club_core.specs.State.{kind_at, place};
 ghost use Rattle.club_lists.specs.Dates.{IsUntil};
 ghost use Rattle.club_lists.specs.Lines.{member_lines, game_name, games_of, running_of, event_tail, event_text};
-ghost use Rattle.club_lists.specs.Lines.{kind_name};
+ghost use Rattle.club_lists.specs.Lines.{closed_tail, key_tail, kind_name, member_line};
 ghost use Rattle.club_lists.specs.Lines.{event_line, game_tail};
 ghost use Rattle.club_lists.specs.Lines.{event_lines, key_text, player_name, game_line, IsGameState, IsGameLine};
 ghost use Rattle.club_lists.specs.Lines.{AreGameLines};
@@ -24,7 +24,32 @@ use club_rules::GameKind;
 use squares::Side;
 use std::alloc::{AllocError, Global};
 
-/// The members, one per line, without their keys.
+// How many keys the member was given later, which is the number of the present key.
+fn key_number(member: &Member) -> usize
+    ensures { result ≡ length (member_of member.now).later }
+{
+    member.later.as_slice().len()
+}
+
+// The number of a key, after the name of its member; nothing for the first key.
+fn key_tail(alloc: Global, number: usize) -> Result<String, AllocError>
+    ensures { IfOk result (λ tail. string_bytes tail ≡ key_tail number) }
+{
+    match number {
+        0 => Ok(String::new(alloc)),
+        _ => format!(in alloc; " key {number}"),
+    }
+}
+
+fn member_line(alloc: Global, id: usize, member: &Member) -> Result<String, AllocError>
+    ensures { IfOk result (λ line. string_bytes line ≡ member_line id (member_of member.now)) }
+{
+    let name = member.name.as_str();
+    let tail = key_tail(alloc, key_number(member))?;
+    format!(in alloc; "member {id} {name}{tail}\n")
+}
+
+/// The members, one per line, with the number of the present key if it is not the first one. No key is written.
 ///
 /// # Errors
 ///
@@ -36,8 +61,8 @@ pub fn members_text(alloc: Global, members: &[Member]) -> Result<String, AllocEr
     let mut id: usize = 0;
     for member in members {
         id += 1;
-        let name = member.name.as_str();
-        writeln!(text, "member {id} {name}")?;
+        let line = member_line(alloc, id, member)?;
+        text.push_str(line.as_str())?;
     }
     Ok(text)
 }
@@ -101,7 +126,17 @@ pub(crate) fn running_of(games: &[GameEntry], event: usize) -> usize
         .count()
 }
 
-// The end of an event's line: its game, budget, increment and numbers of games.
+// The word after an event that is closed to challenges.
+fn closed_tail(event: &Event) -> &'static str
+    ensures { result.now ≡ closed_tail (event_of event.now).closed }
+{
+    match event.closed {
+        Some(_) => " closed",
+        None => "",
+    }
+}
+
+// The end of an event's line: its game, budget, increment and numbers of games, and whether it is closed.
 fn event_tail(
     alloc: Global,
     event: &Event,
@@ -113,7 +148,8 @@ fn event_tail(
     let game = game_name(event.game);
     let budget = event.budget;
     let increment = event.increment;
-    format!(in alloc; "{game} {budget} {increment} {games} {running}\n")
+    let closed = closed_tail(event);
+    format!(in alloc; "{game} {budget} {increment} {games} {running}{closed}\n")
 }
 
 // An event's line, given its numbers of games.
@@ -143,7 +179,7 @@ fn event_line(
     event_text(alloc, id, event, games_of(games, id), running)
 }
 
-/// The events, one per line, with the numbers of all and of running games.
+/// The events, one per line, with the numbers of all and of running games, and `closed` if they take no challenges.
 ///
 /// # Errors
 ///

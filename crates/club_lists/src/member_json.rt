@@ -34,7 +34,7 @@ pub fn member_name_by_key<'a>(members: &'a [Member], key: &str) -> Option<&'a st
     ensures none { result ≡ None → member_name_by_key key.now (members_of members.now) ≡ None }
 {
     for member in members {
-        if member.key.as_str() == key {
+        if member.present_key() == key {
             return Some(member.name.as_str());
         }
     }
@@ -46,7 +46,7 @@ pub fn member_id_by_key(members: &[Member], key: &str) -> Option<u32>
     requires { length members.now ≤ most_members }
     ensures { result ≡ find_id (has_member_key key.now) (members_of members.now) }
 {
-    match members.iter().position(|m| m.key.as_str() == key) {
+    match members.iter().position(|m| m.present_key() == key) {
         Some(before) => Some(before as u32 + 1),
         None => None,
     }
@@ -174,7 +174,8 @@ fn event_value(alloc: Global, event: &Event) -> Result<Value, AllocError>
         "budget": event.budget,
         "event": event.name.as_str(),
         "game": game_name(event.game),
-        "increment": event.increment
+        "increment": event.increment,
+        "open": event.closed.is_none()
     })
 }
 
@@ -192,7 +193,7 @@ fn event_values(alloc: Global, events: &[Event]) -> Result<Vec<Value>, AllocErro
 fn is_other(key: &str, member: &Member) -> bool
     ensures { result ≡ is_other key.now (member_of member.now) }
 {
-    member.key.as_str() != key
+    member.present_key() != key
 }
 
 // The names of the members with another key.

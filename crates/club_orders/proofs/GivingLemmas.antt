@@ -1,7 +1,7 @@
 -- Questions that are asked of a club in turn, before orders are given to it.
 use Rattle.std.proofs.Common.{◌≡◌, ◌⊎◌, inl, inr, ℕ, ◌≤◌, List, ◌∷◌, length, map, take, Option, Some, None, refl, sym}
 use Rattle.std.proofs.Common.{ap, subst, ◌∙◌}
-use Rattle.std.specs.Prelude.{IfSome}
+use Rattle.std.specs.Prelude.{IfSome, pos}
 use Rattle.club_requests.specs.declared.refusals.Refusal.{Refusal}
 use Rattle.club_requests.specs.declared.questions.Question.{Question}
 use Rattle.club_answers.specs.AnswerTexts.{HasWrittenAnswer}
@@ -45,6 +45,16 @@ module _ (s : ClubState) (moment : ℕ) (all left next : List Question) (questio
       → AskedOn s moment all left → AreAsked s moment all (Some why)
   asked_last why at one on =
       on (Some why) (subst (λ l. AreAsked s moment l (Some why)) (sym at) (inr (why, one, refl)))
+
+-- a run of requests that the club takes ends by no fault of the schema
+pub run_fault : (fault : Option StoreFault)
+    → IfSome fault (λ f. (f ≡ store_fault.Store) ⊎ ((f ≡ store_fault.Memory) ⊎ (f ≡ store_fault.Schema (pos 2))))
+    → (fault ≡ Some (store_fault.Schema (pos 2)) → ⊥)
+    → IfSome fault (λ f. (f ≡ store_fault.Store) ⊎ (f ≡ store_fault.Memory))
+run_fault None of other = of
+run_fault (Some fault) (inl is) other = inl is
+run_fault (Some fault) (inr (inl is)) other = inr is
+run_fault (Some fault) (inr (inr is)) other = absurd (other (ap Some is))
 
 -- orders that were given as a run of these requests
 module _ (s : ClubState) (batch : Batch) (batched : BatchResults) (requests : List Request)

@@ -4,8 +4,10 @@ pub mod GivingLemmas
 pub mod PrintedLemmas
 pub mod Proved
 pub mod QuestionLemmas
+pub mod RecordedLemmas
 pub mod RefusalLemmas
 pub mod SessionLemmas
 pub mod SweepLemmas
 pub mod TakenLemmas
+pub mod UpgradeLemmas
 pub mod WrittenLemmas

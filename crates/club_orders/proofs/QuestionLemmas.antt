@@ -1,5 +1,5 @@
 -- What is reported of a question that was answered, or not.
-use Rattle.std.proofs.Common.{◌≡◌, ◌⊎◌, inl, inr, ℕ, List, Option, Some, None, Result, Ok, Err, refl}
+use Rattle.std.proofs.Common.{◌≡◌, ◌⊎◌, inl, inr, ℕ, List, Option, Some, None, Result, Ok, Err, refl, ℤ}
 use Rattle.std.specs.Prelude.{IfOk, IfErr}
 use Rattle.club_requests.specs.declared.refusals.Refusal.{Refusal}
 use Rattle.club_requests.specs.declared.questions.Question.{Question}
@@ -19,6 +19,13 @@ not_reopen (inl e) = cc
 not_reopen (inr (inl e)) = cc
 not_reopen (inr (inr e)) = cc
 
+not_schema : (number : ℤ) → (ask_fault.Club (store_fault.Schema number) ≡ ask_fault.Output)
+    ⊎ ((ask_fault.Club (store_fault.Schema number) ≡ ask_fault.Club store_fault.Store)
+    ⊎ (ask_fault.Club (store_fault.Schema number) ≡ ask_fault.Club store_fault.Memory)) → ⊥
+not_schema number (inl e) = cc
+not_schema number (inr (inl e)) = cc
+not_schema number (inr (inr e)) = cc
+
 pub shows : (s : ClubState) (moment : ℕ) (question : Question) (before now : Option (List ℕ))
     (answered : Result (Option Refusal) AskFault)
     → IfOk answered (λ refusal. HasWrittenAnswer s moment question refusal before now)
@@ -33,3 +40,5 @@ shows s moment question before now (Err (ask_fault.Club store_fault.Store)) show
 shows s moment question before now (Err (ask_fault.Club store_fault.Memory)) shown some fault = (inr refl, some)
 shows s moment question before now (Err (ask_fault.Club store_fault.Reopen)) shown some fault =
     absurd (not_reopen fault)
+shows s moment question before now (Err (ask_fault.Club (store_fault.Schema number))) shown some fault =
+    absurd (not_schema number fault)

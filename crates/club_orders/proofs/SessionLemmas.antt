@@ -1,16 +1,14 @@
 -- What sessions led to, and what stands where they led.
-use Rattle.std.proofs.Common.{◌≡◌, List, [], ◌++◌, append-nil, inl, inr, refl, sym, subst}
+use Rattle.std.proofs.Common.{List, [], ◌++◌, append-nil, sym, subst}
 use Rattle.sqlite.specs.Schema.{Schema}
 use Rattle.sqlite.specs.Tree.{Trees}
 use Rattle.sqlite.specs.State.{State}
-use Rattle.store_tables.specs.Migrations.{HoldsInVersion}
 use Rattle.store_tables.specs.Over.{Neighbours}
 use Rattle.store_tables.specs.Placed.{HasClubTables, HasTables}
 use Rattle.store_tables.specs.declared.names.Version.{Version}
-use Rattle.store_tables.specs.declared.names.Version.TheVariants.{First, Current}
+use Rattle.store_tables.specs.declared.names.Version.TheVariants.{V1}
 use Rattle.store_tables.proofs.Proved.{has_first_tables, leaves_in_version}
-use Rattle.club_rows.specs.Club.{ClubState, tables}
-use Rattle.club_rows.specs.FirstSchema.{IsFirstClub, first_tables}
+use Rattle.club_rows.specs.FirstSchema.{tables_at}
 use Rattle.store.specs.Histories.{HistoryStep, IsReachable, IsReachableIn, IsHistory}
 
 -- with no session more
@@ -28,29 +26,22 @@ led_still_in from versions them sessions db led = record {
 }
 
 -- what a stop leaves of tables that sessions led to is what they led to
-pub left_led : (from : Version) (them : Neighbours) (sessions : List HistoryStep) (s : State)
-    → IsHistory from Current them sessions s → (db : Trees) → s.may_leave db → IsReachable from Current them sessions db
-left_led from them sessions s at db left = record {
+pub left_led : (from version : Version) (them : Neighbours) (sessions : List HistoryStep) (s : State)
+    → IsHistory from version them sessions s → (db : Trees) → s.may_leave db → IsReachable from version them sessions db
+left_led from version them sessions s at db left = record {
   after = at.after;
   legal = at.legal;
   leads = at.leads;
-  leaves = leaves_in_version Current them (tables at.after) s at.exactly db left;
+  leaves = leaves_in_version version them (tables_at version at.after) s at.exactly db left;
 }
 
--- tables that are not those of schema 1 stand where the sessions lead in schema 2
-pub newer_history : (from version : Version) (them : Neighbours) (sessions : List HistoryStep) (s : State)
-    → ((c : ClubState) → IsFirstClub c → ¬ HoldsInVersion First them (first_tables c) s)
-    → IsHistory from version them sessions s → (version ≡ Current) × IsHistory from Current them sessions s
-newer_history from First them sessions s newer at = absurd (newer at.after at.legal at.exactly)
-newer_history from Current them sessions s newer at = (refl, at)
-
 -- a club of each version has the tables of schema 1
-pub first_tables_of : (schema : Schema) → HasClubTables schema → HasTables First schema
+pub first_tables_of : (schema : Schema) → HasClubTables schema → HasTables V1 schema
 first_tables_of schema (version, has) = has_first_tables version schema has.0
 
 -- wherever sessions lead, the tables of schema 1 stand
 pub stand_first : (from version : Version) (them : Neighbours) (sessions : List HistoryStep) (s : State)
-    → IsHistory from version them sessions s → HasTables First s.now.schema
+    → IsHistory from version them sessions s → HasTables V1 s.now.schema
 stand_first from version them sessions s at =
-    subst (HasTables First) (sym at.exactly.holds.exactly.now.schema)
+    subst (HasTables V1) (sym at.exactly.holds.exactly.now.schema)
     (has_first_tables at.exactly.before.version at.exactly.before.schema at.exactly.holds.clear.club)

@@ -1,6 +1,5 @@
 -- What a sweep with a limit reports, by the report of the sweep alone.
 use Rattle.std.proofs.Common.{◌≤◌, ◌≡◌, ℕ}
-use Rattle.club_requests.specs.declared.answers.Outcome.{Outcome}
 use Rattle.club_rows.specs.Club.{ClubState}
 use Rattle.club_core.specs.Answer.{answered, outcome_of}
 use Rattle.club_changes.specs.Steps.{club_step}

@@ -1,27 +1,29 @@
 -- A club that an opening found, alone or among what other programs made.
-use Rattle.std.proofs.Common.{◌≡◌, true, ap, sym, subst, ◌∙◌, Result, Ok, Err}
+use Rattle.std.proofs.Common.{◌≡◌, Bool, true, ap, sym, subst, ◌∙◌, Result, Ok, Err}
 use Rattle.std.specs.Prelude.{IfOk, IfErr}
 use Rattle.sqlite.specs.State.{State}
 use Rattle.sqlite.specs.Tree.{Trees}
 use Rattle.store_tables.specs.Contents as of_schema
 use Rattle.store_tables.specs.Contents.{Content}
 use Rattle.store_tables.specs.Migrations.{HoldsInVersion}
-use Rattle.store_tables.specs.Over.{HasRows, HoldsClubAmong, LeavesBeside, Neighbours}
+use Rattle.store_tables.specs.Over.{HasRowsIn, HoldsClubAmong, LeavesBeside, Neighbours}
 use Rattle.store_tables.specs.Placed.{HasTablesOf}
 use Rattle.store_tables.specs.Reading.{KeepsContent}
 use Rattle.store_tables.specs.Room.{IsWithoutClub, LeavesNoClub}
-use Rattle.store_tables.specs.declared.names.Version.TheVariants.{First, Current}
-use Rattle.store_tables.proofs.Proved.{rows_beside, still_beside}
+use Rattle.store_tables.specs.declared.names.Version.{Version}
+use Rattle.store_tables.proofs.Proved.{rows_in, still_beside, still_rows}
 use Rattle.sqlite.specs.Schema.{Schema}
 use Rattle.schema_match.specs.Shapes.{is_of_club}
-use Rattle.club_rows.specs.Club.{ClubState, tables}
-use Rattle.club_rows.specs.FirstSchema.{first_tables}
+use Rattle.club_rows.specs.Club.{ClubState, IsClub, StoresClub, tables}
+use Rattle.club_rows.specs.FirstSchema.{tables_at}
+use Rattle.club_rows.specs.Tables.{version_of}
 use Rattle.club_check.specs.internal.Refused.{IsKept}
 use Rattle.club_check.specs.Versions.{HoldsRows}
 use Rattle.club_orders.specs.declared.report.Report.{Report}
 use Rattle.club_orders.specs.declared.report.Report.TheVariants.{Unopened}
-use Rattle.club_orders.specs.Refused.{HasFirst}
+use Rattle.club_orders.specs.Refused.{HasEarlier}
 use Rattle.club_orders.specs.Report.{IfTaken}
+use Rattle.store.specs.Clubs.{Asks, Serves}
 use Rattle.store.specs.Histories.{HasState}
 use Rattle.store.proofs.Proved.{holds_beside, holds_in_version}
 
@@ -39,38 +41,64 @@ module _ (club : ClubState) (s : State) (exact : IsExact s) (has : HasState club
   pub stands_beside : HoldsClubAmong has.them (tables club) s
   stands_beside = record { clear = has.leaves.clear; exactly = exact _ _ has.leaves.leaves }
 
-  -- what a taker of such clubs promises
-  pub is_taken : (P : Type 0)
-      → (HoldsRows Current (tables club) s.now → is_of_club Current s.now.schema ≡ true → P) → P
-  is_taken P takes =
-      let at = stands_beside in
-      takes (holds_beside has.them (tables club) s has.version at) (ap (is_of_club Current) at.exactly.now.schema ∙ has.shape)
-
-  pub stand_beside : HasTablesOf Current s.now.schema
-  stand_beside = (holds_beside has.them (tables club) s has.version stands_beside).schema
-
   -- a call that answered left the rows
-  pub still_there : (new : State) → KeepsContent s new → HasRows (tables club) new
+  pub still_there : (new : State) → KeepsContent s new → StoresClub club new
   still_there new kept =
-      rows_beside has.them (tables club) new has.version (still_beside s new kept has.them (tables club) stands_beside)
+      subst (λ v. HasRowsIn v (tables club) new) has.version
+      (rows_in has.them (tables club) new (still_beside s new kept has.them (tables club) stands_beside))
 
--- the same of a club of schema 1
-module _ (them : Neighbours) (club : ClubState) (s : State) (exact : IsExact s)
-    (has : HasFirst them club s.committed.trees) where
-  pub first_beside : HoldsInVersion First them (first_tables club) s
-  first_beside = record {
+  module _ (legal : IsClub club) where
+    -- what a taker of such clubs promises
+    pub is_taken : (P : Type 0)
+        → (HoldsRows (version_of club) (tables club) s.now → is_of_club (version_of club) s.now.schema ≡ true → P) → P
+    is_taken P takes =
+        let at = stands_beside in
+        takes (holds_beside has.them club s has.version legal at)
+        (ap (is_of_club (version_of club)) at.exactly.now.schema ∙ has.shape)
+
+    pub stand_beside : HasTablesOf (version_of club) s.now.schema
+    stand_beside = (holds_beside has.them club s has.version legal stands_beside).schema
+
+-- the same of a club of an earlier schema
+module _ (from : Version) (them : Neighbours) (club : ClubState) (s : State) (exact : IsExact s)
+    (has : HasEarlier from them club s.committed.trees) where
+  pub earlier_beside : HoldsInVersion from them (tables_at from club) s
+  earlier_beside = record {
     before = has.leaves.before;
     is = has.leaves.is;
     migrates = has.leaves.migrates;
     holds = record { clear = has.leaves.leaves.clear; exactly = exact _ _ has.leaves.leaves.leaves };
   }
 
-  pub first_shape : is_of_club First s.now.schema ≡ true
-  first_shape = ap (is_of_club First) (exact _ _ has.leaves.leaves.leaves).now.schema ∙ has.shape
+  pub earlier_schema : s.now.schema ≡ has.leaves.before.schema
+  earlier_schema = (exact _ _ has.leaves.leaves.leaves).now.schema
 
-  pub is_taken_first : (P : Type 0)
-      → (HoldsRows First (first_tables club) s.now → is_of_club First s.now.schema ≡ true → P) → P
-  is_taken_first P takes = takes (holds_in_version First them (first_tables club) s has.version first_beside) first_shape
+  pub earlier_shape : is_of_club from s.now.schema ≡ true
+  earlier_shape = ap (is_of_club from) earlier_schema ∙ has.shape
+
+  pub is_taken_earlier : (P : Type 0)
+      → (HoldsRows from (tables_at from club) s.now → is_of_club from s.now.schema ≡ true → P) → P
+  is_taken_earlier P takes =
+      takes (holds_in_version from them club s has.served has.legal earlier_beside) earlier_shape
+
+-- a call that answered left what a query finds
+pub still_asked : {one other : Bool} {club : ClubState} → other ≡ one → (old new : State) → KeepsContent old new
+    → Asks one old club → Asks other new club
+still_asked {club = club} same old new kept asks = record {
+  legal = asks.legal;
+  arbiter = same ∙ asks.arbiter;
+  stores = still_rows old new kept (tables club) asks.stores;
+}
+
+-- and what a command finds
+pub still_served : {one other : Bool} {them : Neighbours} {club : ClubState} → other ≡ one → (old new : State)
+    → KeepsContent old new → Serves one old them club → Serves other new them club
+still_served {them = them} {club = club} same old new kept k = record {
+  legal = k.legal;
+  arbiter = same ∙ k.arbiter;
+  version = k.version;
+  holds = still_beside old new kept them (tables club) k.holds;
+}
 
 -- a connection that opens on the tables of other programs alone has exactly these
 pub without_club : (them : Neighbours) (s : State) → IsExact s → LeavesNoClub them s.committed.trees

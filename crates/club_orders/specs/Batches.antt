@@ -20,6 +20,7 @@ use Rattle.store.specs.FaultText.{store_fault_text}
 use Rattle.store.specs.Histories.{HistoryStep, session_of}
 use Rattle.store.specs.Runs.{club_outcomes}
 use Rattle.cli.specs.declared.batches.Batch.{Batch}
+use Rattle.club_orders.specs.Recorded.{IfRecorded, takes_all}
 use Rattle.club_orders.specs.declared.batched.BatchResults.{BatchResults}
 use Rattle.club_orders.specs.declared.report.Report.{Report}
 use Rattle.club_orders.specs.declared.report.Report.TheVariants as report
@@ -119,14 +120,20 @@ pub record AreGiven (s : ClubState) (batch : Batch) (batched : BatchResults) : T
 
 -- No query is refused and the requests were executed; or one is refused and none was; or a call failed or memory ran
 -- out before the first request.
-abbrev pub AnswersBatch : ClubState → (moment : ℕ) → Batch → Report → Type 0
-AnswersBatch s moment batch (report.Batched batched) =
+abbrev pub AnswersRequests : ClubState → (moment : ℕ) → Batch → Report → Type 0
+AnswersRequests s moment batch (report.Batched batched) =
     AreAsked s moment batch.questions.items None × AreGiven s batch batched
-AnswersBatch s moment batch (report.Answered (outcome.Refused refusal)) =
+AnswersRequests s moment batch (report.Answered (outcome.Refused refusal)) =
     AreAsked s moment batch.questions.items (Some refusal)
-AnswersBatch s moment batch (report.Unopened fault) = (fault ≡ open_fault.Store) ⊎ (fault ≡ open_fault.Memory)
-AnswersBatch s moment batch (report.StoreFailed fault) = (fault ≡ store_fault.Store) ⊎ (fault ≡ store_fault.Memory)
-AnswersBatch s moment batch _ = ⊥
+AnswersRequests s moment batch (report.Unopened fault) = (fault ≡ open_fault.Store) ⊎ (fault ≡ open_fault.Memory)
+AnswersRequests s moment batch (report.StoreFailed fault) =
+    (fault ≡ store_fault.Store) ⊎ (fault ≡ store_fault.Memory)
+AnswersRequests s moment batch _ = ⊥
+
+-- The batch is answered so. If the club cannot record one of its requests, the fault says so, and nothing is executed.
+abbrev pub AnswersBatch : ClubState → (moment : ℕ) → Batch → Report → Type 0
+AnswersBatch s moment batch report =
+    IfRecorded (takes_all s batch.requests.items) report (AnswersRequests s moment batch report)
 
 -- the requests are one session, which ends at the fault if there is one; without requests there is no session
 abbrev pub batch_sessions : List Request → Report → List HistoryStep

@@ -1,13 +1,14 @@
 -- The subject of the explanation of a refused command.
 use Rattle.std.specs.Prelude.{length, Option, Some, None, if◌then◌else◌, nat_lt, ◌==◌, string_bytes}
 use Rattle.std.specs.Str.{bytes_eq}
-use Rattle.club_requests.specs.Limits.{is_budget, is_name, most_record_bytes}
+use Rattle.club_requests.specs.Limits.{is_budget, is_member_key, is_name, most_record_bytes}
 use Rattle.club_requests.specs.declared.refusals.Refusal.{Refusal}
 use Rattle.club_requests.specs.declared.refusals.Refusal.TheVariants.{BadValue}
 use Rattle.club_requests.specs.declared.requests.AddMember.{AddMember}
 use Rattle.club_requests.specs.declared.requests.AddEvent.{AddEvent}
 use Rattle.club_requests.specs.declared.requests.Seat.{Seat}
 use Rattle.club_requests.specs.declared.requests.Import.{Import}
+use Rattle.club_requests.specs.declared.requests.NewKey.{NewKey}
 use Rattle.club_requests.specs.declared.requests.GameCommand.{GameCommand}
 use Rattle.club_requests.specs.declared.requests.GameCommand.TheVariants.{Move}
 use Rattle.club_requests.specs.declared.requests.Command.{Command}
@@ -15,7 +16,8 @@ use Rattle.club_requests.specs.declared.requests.Command.TheVariants as command
 use Rattle.club_orders.specs.declared.causes.Explanation.{Explanation}
 use Rattle.club_orders.specs.declared.causes.Explanation.TheVariants as explanation
 use Rattle.club_orders.specs.declared.causes.WrongValue.{WrongValue}
-use Rattle.club_orders.specs.declared.causes.WrongValue.TheVariants.{MemberName, MemberKey, EventName, Budget}
+use Rattle.club_orders.specs.declared.causes.WrongValue.TheVariants.{MemberName, MemberKey, KeyOwner, EventName}
+use Rattle.club_orders.specs.declared.causes.WrongValue.TheVariants.{Budget}
 use Rattle.club_orders.specs.declared.causes.WrongValue.TheVariants.{Increment, GameKey, SamePlayer, UnknownPlayer}
 use Rattle.club_orders.specs.declared.causes.WrongValue.TheVariants.{RecordLength, NoPart, PlayerOrRecord, MoveText}
 
@@ -24,6 +26,10 @@ use Rattle.club_orders.specs.declared.causes.WrongValue.TheVariants.{RecordLengt
 -- the wrong value of a new member: the name or the key
 abbrev pub value_of_member : AddMember → WrongValue
 value_of_member m = if is_name (string_bytes m.name) then MemberKey else MemberName
+
+-- the wrong value of a member's new key: the key, or the member or the number
+abbrev pub value_of_key : NewKey → WrongValue
+value_of_key k = if is_member_key (string_bytes k.key) then KeyOwner else MemberKey
 
 -- the wrong value of a new event: the name, the budget or the increment
 abbrev pub value_of_event : AddEvent → WrongValue
@@ -62,6 +68,7 @@ wrong_value (command.AddEvent c) = Some (value_of_event c)
 wrong_value (command.Seat c) = Some (value_of_seat c)
 wrong_value (command.Import c) = Some (value_of_import c)
 wrong_value (command.OnGame c) = value_on_game c.command
+wrong_value (command.NewKey c) = Some (value_of_key c)
 wrong_value _ = None
 
 -- the explanation of the wrong value, or of the refusal 65 if the command does not show one

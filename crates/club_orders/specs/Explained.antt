@@ -1,10 +1,11 @@
 -- The explanation of a report, and how it is printed.
-use Rattle.std.specs.Prelude.{◌≡◌, ℕ, ◌==◌, List, [], ◌∷◌, ◌++◌, take, Option, Some, None, Bool, true, false}
+use Rattle.std.specs.Prelude.{ℕ, ◌==◌, List, [], ◌∷◌, ◌++◌, take, Option, Some, None, Bool, true}
 use Rattle.std.specs.Prelude.{if◌then◌else◌, pos, negsuc, ℤ, codes, decimal}
 use Rattle.std.specs.Io.KnownBytes.{Appends}
 use Rattle.club_requests.specs.declared.questions.Question.{Question}
 use Rattle.club_requests.specs.declared.questions.Question.TheVariants.{Games, GamesJson}
 use Rattle.club_requests.specs.declared.requests.Command.{Command}
+use Rattle.club_requests.specs.declared.requests.Command.TheVariants.{NewKey}
 use Rattle.club_requests.specs.declared.requests.Request.{Request}
 use Rattle.club_requests.specs.declared.refusals.Refusal.{Refusal}
 use Rattle.club_requests.specs.declared.refusals.Refusal.TheVariants.{BadValue}
@@ -58,14 +59,22 @@ task_explained (task.Ask question) refusal = question_explained question refusal
 task_explained (task.Batch batch) refusal = seats_explained refusal
 task_explained _ refusal = explanation.Refusal refusal
 
--- fault 76: a batch lacks its orders, and any other task its record
+-- the input that a command lacks: a new key, or a record
+abbrev pub command_input_explained : Command → ExplainedFault
+command_input_explained (NewKey given) = fault.NoKey
+command_input_explained _ = fault.NoRecord
+
+-- fault 76: a batch lacks its orders, and any other task its key or its record
 abbrev pub input_explained : Task → ExplainedFault
 input_explained (task.Batch batch) = fault.NoOrders
+input_explained (task.Request command) = command_input_explained command
 input_explained _ = fault.NoRecord
 
--- fault 70: `init` needs a database without a club, every other task one with a club
+-- fault 70: `init` needs a database without a club, every other task one with a club; an upgrade for an arbiter needs
+-- names of tables that no other program has taken
 abbrev pub foreign_explained : Task → ExplainedFault
-foreign_explained task.Init = fault.NotEmpty
+foreign_explained (task.Init has_arbiter) = fault.NotEmpty
+foreign_explained (task.Upgrade true) = fault.NamesTaken
 foreign_explained _ = fault.NoClub
 
 -- fault 71: schema 1 is older than the program; of any other number it says that the file is newer
@@ -81,11 +90,12 @@ opening_explained task (open_fault.Damaged table) = fault.Damaged
 opening_explained task open_fault.Store = fault.Store
 opening_explained task open_fault.Memory = fault.Memory
 
--- the explanation of a fault of an open club
+-- the explanation of a fault of an open club; 71 is of an arbiter's command, which schema 2 cannot record
 abbrev pub stop_explained : StoreFault → ExplainedFault
 stop_explained store_fault.Store = fault.Store
 stop_explained store_fault.Reopen = fault.Reopen
 stop_explained store_fault.Memory = fault.Memory
+stop_explained (store_fault.Schema number) = fault.NoArbiter
 
 -- the explanation of an outcome, if it is a refusal
 abbrev pub answer_explained : Task → Outcome → Option Explanation
@@ -110,9 +120,9 @@ report_explained task InputFailed = Some (explanation.Fault (input_explained tas
 report_explained task PortUnavailable = Some (explanation.Fault fault.NoPort)
 report_explained task NoMemory = Some (explanation.Fault fault.Memory)
 report_explained task Ready = None
-report_explained task Sound = None
-report_explained task Upgraded = None
-report_explained task AlreadyUpgraded = None
+report_explained task (Sound version) = None
+report_explained task (Upgraded from) = None
+report_explained task (AlreadyUpgraded version) = None
 report_explained task Copied = None
 report_explained task Shown = None
 report_explained task (Batched batched) = None

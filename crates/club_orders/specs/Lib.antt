@@ -3,6 +3,7 @@ pub mod Causes
 pub mod Explained
 pub mod Lines
 pub mod NextStates
+pub mod Recorded
 pub mod Refused
 pub mod Report
 pub mod Sweeps

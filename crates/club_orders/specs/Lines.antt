@@ -41,7 +41,8 @@ use Rattle.club_orders.specs.declared.texts.TheConstants.{MEMORY, NO_CLOCK, NO_R
 use Rattle.club_orders.specs.declared.texts.TheConstants.{NO_COPY, NO_ORDERS, NOT_PRIVATE, UTF_16, AUTO_VACUUM}
 use Rattle.club_orders.specs.declared.texts.TheConstants.{RESERVED_BYTES, MALFORMED, BROKEN_RULES, SEATED_NAME}
 use Rattle.club_orders.specs.declared.texts.TheConstants.{NAME_TWICE, SEATED_MEMBER, KEY_PREFIX, VIRTUAL_TABLE, VIEW}
-use Rattle.club_orders.specs.declared.texts.TheConstants.{SWEEP_LIMIT}
+use Rattle.club_orders.specs.declared.texts.TheConstants.{SWEEP_LIMIT, EVENT_CLOSED, KEY_OWNER, NAMES_TAKEN}
+use Rattle.club_orders.specs.declared.texts.TheConstants.{NO_ARBITER, NO_KEY}
 use Rattle.club_orders.specs.declared.texts.TheConstants.{VIEW_TRIGGER, NAMESAKE, TABLE, OBJECT_END}
 
 -- refusals of a move by the rules
@@ -92,6 +93,7 @@ refusal_line refusal.NameTaken = NAME_TAKEN.now
 refusal_line refusal.BadValue = BAD_VALUE.now
 refusal_line refusal.Full = FULL.now
 refusal_line refusal.NotDeclarable = NOT_DECLARABLE.now
+refusal_line refusal.EventClosed = EVENT_CLOSED.now
 refusal_line (refusal.Play ply refusal) = move_line refusal
 refusal_line (refusal.Record refusal) = record_line refusal
 
@@ -99,6 +101,7 @@ refusal_line (refusal.Record refusal) = record_line refusal
 abbrev pub value_line : WrongValue → List ℕ
 value_line value.MemberName = MEMBER_NAME.now
 value_line value.MemberKey = MEMBER_KEY.now
+value_line value.KeyOwner = KEY_OWNER.now
 value_line value.EventName = EVENT_NAME.now
 value_line value.Budget = BUDGET.now
 value_line value.Increment = INCREMENT.now
@@ -138,8 +141,10 @@ file_line file.Failed = NOT_OPENED.now
 abbrev pub fault_line : ExplainedFault → List ℕ
 fault_line fault.NoClub = NO_CLUB.now
 fault_line fault.NotEmpty = NOT_EMPTY.now
+fault_line fault.NamesTaken = NAMES_TAKEN.now
 fault_line fault.OlderSchema = OLDER_SCHEMA.now
 fault_line fault.LaterSchema = LATER_SCHEMA.now
+fault_line fault.NoArbiter = NO_ARBITER.now
 fault_line fault.Damaged = DAMAGED.now
 fault_line fault.InUse = IN_USE.now
 fault_line (fault.NotOpened cause) = file_line cause
@@ -148,6 +153,7 @@ fault_line fault.Reopen = REOPEN.now
 fault_line fault.Memory = MEMORY.now
 fault_line fault.NoClock = NO_CLOCK.now
 fault_line fault.NoRecord = NO_RECORD.now
+fault_line fault.NoKey = NO_KEY.now
 fault_line fault.NoOrders = NO_ORDERS.now
 fault_line fault.NoPort = NO_PORT.now
 fault_line fault.NoOutput = NO_OUTPUT.now

@@ -7,24 +7,25 @@ use Rattle.store_tables.specs.Migrations.{LeavesInVersion}
 use Rattle.store_tables.specs.Over.{LeavesBeside, Neighbours, alone}
 use Rattle.store_tables.specs.Room.{LeavesNoClub}
 use Rattle.store_tables.specs.declared.names.Version.{Version}
-use Rattle.store_tables.specs.declared.names.Version.TheVariants.{First, Current}
+use Rattle.store_tables.specs.Tables.{IsServed}
 use Rattle.club_requests.specs.declared.requests.Who.TheVariants.{Officer}
 use Rattle.club_requests.specs.declared.requests.Command.{Command}
 use Rattle.club_requests.specs.declared.requests.Command.TheVariants.{Sweep}
 use Rattle.club_requests.specs.declared.answers.Outcome.{Outcome}
 use Rattle.club_requests.specs.declared.answers.Outcome.TheVariants as outcome
 use Rattle.club_requests.specs.AnswerText.{outcome_text}
-use Rattle.club_core.specs.State.{Request}
+use Rattle.club_core.specs.Answer.{answered, outcome_of}
+use Rattle.club_core.specs.State.{Request, takes}
 use Rattle.club_rows.specs.Club.{ClubState, tables}
-use Rattle.club_rows.specs.FirstSchema.{first_tables}
+use Rattle.club_rows.specs.FirstSchema.{tables_at, upgraded_to}
 use Rattle.club_check.specs.declared.fault.OpenFault.{OpenFault}
 use Rattle.club_check.specs.declared.fault.OpenFault.TheVariants as open_fault
 use Rattle.store.specs.declared.fault.StoreFault.TheVariants as store_fault
 use Rattle.club_check.specs.FaultText.{open_fault_text}
 use Rattle.store.specs.FaultText.{store_fault_text}
+use Rattle.store.specs.Clubs.{version_with}
 use Rattle.store.specs.Histories.{HistoryStep, IsReachable, answered_session, cut_session, upgraded}
-use Rattle.store.specs.declared.upgrade_result.Upgrade.{Upgrade}
-use Rattle.club_changes.specs.Steps.{request}
+use Rattle.club_changes.specs.Steps.{club_step, request}
 use Rattle.club_requests.specs.declared.questions.Question.{Question}
 use Rattle.club_answers.specs.AnswerTexts.{HasWrittenAnswer, HasShownSome}
 use Rattle.club_orders.specs.declared.report.Report.{Report}
@@ -35,6 +36,7 @@ use Rattle.club_orders.specs.declared.report.Report.TheVariants.{Listening, Port
 use Rattle.club_orders.specs.declared.report.Report.TheVariants.{AlreadyUpgraded, Batched, Copied, BackupFailed}
 use Rattle.club_orders.specs.declared.report.Report.TheVariants.{Overdue, Unread, ValueRefused}
 use Rattle.club_orders.specs.Batches.{batch_sessions, batch_status, fault_line}
+use Rattle.club_orders.specs.Recorded.{IfRecorded}
 use Rattle.cli.specs.declared.batches.Batch.{Batch}
 use Rattle.cli.specs.declared.words.Task.{Task}
 use Rattle.cli.specs.declared.words.Task.TheVariants as task
@@ -42,9 +44,9 @@ use Rattle.cli.specs.declared.words.Task.TheVariants as task
 -- the line that is printed; the answer to a query and the lines of a batch are printed separately
 abbrev pub report_text : Report → List ℕ
 report_text Ready = codes "ready\n"
-report_text Sound = codes "sound\n"
-report_text Upgraded = codes "upgraded\n"
-report_text AlreadyUpgraded = codes "repeated upgrade\n"
+report_text (Sound version) = codes "sound\n"
+report_text (Upgraded from) = codes "upgraded\n"
+report_text (AlreadyUpgraded version) = codes "repeated upgrade\n"
 report_text Copied = codes "copied\n"
 report_text (Answered outcome) = outcome_text outcome ++ codes "\n"
 report_text (Overdue count) = codes "overdue " ++ decimal count ++ codes "\n"
@@ -73,9 +75,9 @@ outcome_status (outcome.Refused refusal) = 1
 -- 0 for success, 1 for a refusal, 3 for a fault
 abbrev pub report_status : Report → ℕ
 report_status Ready = 0
-report_status Sound = 0
-report_status Upgraded = 0
-report_status AlreadyUpgraded = 0
+report_status (Sound version) = 0
+report_status (Upgraded from) = 0
+report_status (AlreadyUpgraded version) = 0
 report_status Copied = 0
 report_status (Answered outcome) = outcome_status outcome
 report_status (Overdue count) = 1
@@ -119,35 +121,48 @@ IsUnopened (Err report) = IsNotOpened report ⊎ (report ≡ Unopened open_fault
 abbrev pub given : Command → ℕ → Request
 given command moment = request Officer command moment
 
--- the session of one request in the report: answered, or cut off by a fault
+-- the session of one request in the report: answered, or cut off by a fault; none if schema 2 cannot record the request
 abbrev pub request_sessions : Request → Report → List HistoryStep
 request_sessions asked (Answered outcome) = answered_session asked outcome ∷ []
+request_sessions asked (StoreFailed (store_fault.Schema number)) = []
 request_sessions asked (StoreFailed fault) = cut_session asked ∷ []
 request_sessions asked _ = []
 
--- the upgrade in the report: answered or cut off
-abbrev pub upgrade_of : Report → HistoryStep
-upgrade_of Upgraded = upgraded Current true
-upgrade_of AlreadyUpgraded = upgraded Current true
-upgrade_of _ = upgraded Current false
+-- the upgrade in the report to this schema: answered or cut off; a later schema that was found stays
+abbrev pub upgrade_of : (to : Version) → Report → HistoryStep
+upgrade_of to (Upgraded from) = upgraded to true
+upgrade_of to (AlreadyUpgraded version) = upgraded version true
+upgrade_of to _ = upgraded to false
 
--- The schemas in which an upgrade of a file in one of these schemas leaves it: schema 2; if it was cut off, perhaps the
+-- the schema that an upgrade to this schema leads to
+abbrev pub schema_led_to : (to : Version) → Report → Version
+schema_led_to to (AlreadyUpgraded version) = version
+schema_led_to to _ = to
+
+-- The schemas in which an upgrade to `to` leaves a file that is in one of these schemas. If it was cut off, perhaps the
 -- one that was there.
-abbrev pub schemas_after_upgrade : Report → List Version → List Version
-schemas_after_upgrade Upgraded before = Current ∷ []
-schemas_after_upgrade AlreadyUpgraded before = Current ∷ []
-schemas_after_upgrade _ before = Current ∷ before
+abbrev pub schemas_after_upgrade : (to : Version) → Report → List Version → List Version
+schemas_after_upgrade to (Upgraded from) before = to ∷ []
+schemas_after_upgrade to (AlreadyUpgraded version) before = version ∷ []
+schemas_after_upgrade to _ before = to ∷ before
 
 -- The schemas in which a task leaves a file that is in one of these schemas. Only an upgrade changes the schema.
 abbrev pub schemas_after : Task → Report → List Version → List Version
-schemas_after task.Upgrade report before = schemas_after_upgrade report before
+schemas_after (task.Upgrade has_arbiter) report before =
+    schemas_after_upgrade (version_with has_arbiter) report before
 schemas_after _ report before = before
+
+-- The schema of the neighbours in whose presence the history goes on: the one that an upgrade leads to; for other tasks
+-- one that can be served.
+abbrev pub IsLedTo : Task → Report → Version → Type 0
+IsLedTo (task.Upgrade has_arbiter) report version = version ≡ schema_led_to (version_with has_arbiter) report
+IsLedTo _ report version = IsServed version
 
 -- creating a club and reading add no step
 abbrev pub task_sessions : Task → ℕ → Report → List HistoryStep
 task_sessions (task.Request command) moment report = request_sessions (given command moment) report
 task_sessions (task.SweepAtMost most) moment report = request_sessions (given Sweep moment) report
-task_sessions task.Upgrade moment report = upgrade_of report ∷ []
+task_sessions (task.Upgrade has_arbiter) moment report = upgrade_of (version_with has_arbiter) report ∷ []
 task_sessions (task.Batch batch) moment report = batch_sessions batch.requests.items report
 task_sessions _ moment report = []
 
@@ -158,7 +173,24 @@ Answers (Unopened fault) Holds = (fault ≡ open_fault.Store) ⊎ (fault ≡ ope
 Answers (StoreFailed fault) Holds = (fault ≡ store_fault.Store) ⊎ (fault ≡ store_fault.Memory)
 Answers _ Holds = ⊥
 
+-- The command has the outcome of the club's specification, or a call failed, or memory ran out. If the club cannot
+-- record the command, the fault says so.
+abbrev pub AnswersCommand : ClubState → Command → (moment : ℕ) → Report → Type 0
+AnswersCommand s command moment report =
+    IfRecorded (takes s (given command moment).command) report
+    (Answers report (λ outcome. outcome_of outcome ≡ answered (club_step s (given command moment))))
+
 -- ---- properties of one kind of task
+
+-- a property that only the creation of a club must have, about its schema
+abbrev pub IfInit : Task → (Version → Type 0) → Type 0
+IfInit (task.Init has_arbiter) Holds = Holds (version_with has_arbiter)
+IfInit _ Holds = ⊤
+
+-- a property that only an upgrade must have, about the schema that is requested
+abbrev pub IfUpgrade : Task → (Version → Type 0) → Type 0
+IfUpgrade (task.Upgrade has_arbiter) Holds = Holds (version_with has_arbiter)
+IfUpgrade _ Holds = ⊤
 
 -- a property that only a single request must have, about its command
 abbrev pub IfRequest : Task → (Command → Type 0) → Type 0
@@ -223,11 +255,11 @@ IsCreated _ = ⊥
 
 -- ---- verification
 
--- the file is sound; or a call of the database failed, or memory ran out
-abbrev pub IsPassed : Report → Type 0
-IsPassed Sound = ⊤
-IsPassed (Unopened fault) = (fault ≡ open_fault.Store) ⊎ (fault ≡ open_fault.Memory)
-IsPassed _ = ⊥
+-- the file is sound and of this schema; or a call of the database failed, or memory ran out
+abbrev pub IsPassed : Version → Report → Type 0
+IsPassed version (Sound found) = found ≡ version
+IsPassed version (Unopened fault) = (fault ≡ open_fault.Store) ⊎ (fault ≡ open_fault.Memory)
+IsPassed version _ = ⊥
 
 -- ---- backup
 
@@ -240,27 +272,29 @@ IsOfCopy _ = ⊥
 
 -- if an upgrade accepted the file, this holds for the schema version that it found
 abbrev pub IfUpgradeOf : Report → (Version → Type 0) → Type 0
-IfUpgradeOf Upgraded Holds = Holds First
-IfUpgradeOf AlreadyUpgraded Holds = Holds Current
+IfUpgradeOf (Upgraded from) Holds = Holds from
+IfUpgradeOf (AlreadyUpgraded version) Holds = Holds version
 IfUpgradeOf (Unopened fault) Holds = ⊤
 IfUpgradeOf _ Holds = ⊥
 
--- the file was upgraded; or a call of the database failed, or memory ran out
-abbrev pub IsUpgraded : Report → Type 0
-IsUpgraded Upgraded = ⊤
-IsUpgraded (Unopened fault) = (fault ≡ open_fault.Store) ⊎ (fault ≡ open_fault.Memory)
-IsUpgraded _ = ⊥
+-- the file was of this schema and was upgraded; or a call of the database failed, or memory ran out
+abbrev pub IsUpgraded : (from : Version) → Report → Type 0
+IsUpgraded from (Upgraded found) = found ≡ from
+IsUpgraded from (Unopened fault) = (fault ≡ open_fault.Store) ⊎ (fault ≡ open_fault.Memory)
+IsUpgraded from _ = ⊥
 
--- the tables of the state in schema 2; if the upgrade failed, perhaps in schema 1
-abbrev pub AreCarried : Neighbours → ClubState → Report → Trees → Type 0
-AreCarried them s Upgraded trees = LeavesBeside them (tables s) trees
-AreCarried them s _ trees = LeavesInVersion First them (first_tables s) trees ⊎ LeavesBeside them (tables s) trees
+-- the tables of the same state in the schema of the neighbours; if the upgrade failed, perhaps in the earlier schema
+abbrev pub AreCarried : (from : Version) → Neighbours → ClubState → Report → Trees → Type 0
+AreCarried from them s (Upgraded found) trees = LeavesBeside them (tables (upgraded_to them.version s)) trees
+AreCarried from them s _ trees =
+    LeavesInVersion from them (tables_at from s) trees
+    ⊎ LeavesBeside them (tables (upgraded_to them.version s)) trees
 
--- the file was of schema 2; or a call of the database failed, or memory ran out
-abbrev pub IsRepeated : Report → Type 0
-IsRepeated AlreadyUpgraded = ⊤
-IsRepeated (Unopened fault) = (fault ≡ open_fault.Store) ⊎ (fault ≡ open_fault.Memory)
-IsRepeated _ = ⊥
+-- the file was of this schema already; or a call of the database failed, or memory ran out
+abbrev pub IsRepeated : Version → Report → Type 0
+IsRepeated version (AlreadyUpgraded found) = found ≡ version
+IsRepeated version (Unopened fault) = (fault ≡ open_fault.Store) ⊎ (fault ≡ open_fault.Memory)
+IsRepeated version _ = ⊥
 
 -- holds for the fault, if the report is that the file was not accepted
 abbrev pub IfUnopened : Report → (OpenFault → Type 0) → Type 0
@@ -277,12 +311,12 @@ abbrev pub OnlyUnopened : Report → (OpenFault → Type 0) → Type 0
 OnlyUnopened (Unopened fault) Holds = Holds fault
 OnlyUnopened _ Holds = ⊥
 
--- There is an empty club of schema 2; or none was created, and there is no table, or an empty club after all.
-abbrev pub IsBegun : Report → Trees → Type 0
-IsBegun Ready trees = IsReachable Current Current (alone Current) [] trees
-IsBegun _ trees = IsEmpty trees ⊎ IsReachable Current Current (alone Current) [] trees
+-- There is an empty club of this schema; or none was created, and there is no table, or an empty club after all.
+abbrev pub IsBegun : Version → Report → Trees → Type 0
+IsBegun version Ready trees = IsReachable version version (alone version) [] trees
+IsBegun version _ trees = IsEmpty trees ⊎ IsReachable version version (alone version) [] trees
 
--- The same for a club that is created beside these foreign tables.
+-- The same for a club that is created beside these foreign tables, in their schema.
 abbrev pub IsBegunBehind : Neighbours → Report → Trees → Type 0
-IsBegunBehind them Ready trees = IsReachable Current Current them [] trees
-IsBegunBehind them _ trees = LeavesNoClub them trees ⊎ IsReachable Current Current them [] trees
+IsBegunBehind them Ready trees = IsReachable them.version them.version them [] trees
+IsBegunBehind them _ trees = LeavesNoClub them trees ⊎ IsReachable them.version them.version them [] trees

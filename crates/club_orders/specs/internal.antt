@@ -1,2 +1,3 @@
+pub mod Recorded
 pub mod Refused
 pub mod Report

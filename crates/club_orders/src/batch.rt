@@ -3,22 +3,34 @@
 ghost use Rattle.std.specs.Prelude.{◌≡◌, ◌⊎◌, false, refl, IfOk, IfErr, OnOk, is_ok};
 ghost use Rattle.sqlite.specs.State.{HasCleanDisk};
 ghost use Rattle.sqlite.specs.Held.{state};
-ghost use Rattle.store_tables.specs.Over.{HasRows};
 ghost use Rattle.store_tables.specs.Reading.{Reads};
-ghost use Rattle.club_rows.specs.Club.{ClubState, IsClub, tables};
+ghost use Rattle.club_rows.specs.Club.{ClubState};
+ghost use Rattle.store.specs.Clubs.{Asks};
 ghost use Rattle.club_orders.specs.NextStates.{LeavesBatch};
 ghost use Rattle.club_orders.specs.Batches.{batch_sessions, AnswersBatch, AreAsked, IsAsked};
+ghost use Rattle.club_orders.specs.Recorded.{needs_any};
+ghost use Rattle.club_orders.specs.internal.Recorded.{unopened_unrecorded};
 
 use crate::batched::BatchResults;
 use crate::open_club::Execute;
 use crate::report::Report;
 use cli::Batch;
 use clocks::Moment;
-use club_requests::{Outcome, Question, Refusal};
+use club_changes::needs_arbiter;
+use club_requests::{Outcome, Question, Refusal, Request};
 use sqlite::Alter;
 use std::alloc::Global;
 use std::io::{Write, sink};
 use store::{AskFault, Club, Run, StoreFault};
+
+// Whether one of the requests needs an arbiter.
+fn needs_any(requests: &[Request]) -> bool
+    ensures { result ≡ needs_any requests.now }
+{
+    requests
+        .iter()
+        .any(|request| needs_arbiter(&request.command))
+}
 
 // The refusal of a query, if it is refused. Its answer is discarded.
 fn refusal_of<S: Alter>(
@@ -29,10 +41,11 @@ fn refusal_of<S: Alter>(
 ) -> Result<Option<Refusal>, StoreFault>
     requires { club.old.needs_reopening ≡ false }
     ensures ready { OnOk result (club.new.needs_reopening ≡ false) }
+    ensures same_schema { club.new.has_arbiter ≡ club.old.has_arbiter }
     ensures possible_faults { IfErr result (λ fault. (fault ≡ StoreFault.Store) ⊎ (fault ≡ StoreFault.Memory)) }
     ensures reads { Reads (is_ok result) (state S.Store club.old.connection) (state S.Store club.new.connection) }
     ensures asked { HasCleanDisk (state S.Store club.new.connection) → IfOk result (λ refusal. (s : ClubState) →
-        IsClub s → HasRows (tables s) (state S.Store club.old.connection) → IsAsked s moment question.now refusal) }
+        Asks club.old.has_arbiter (state S.Store club.old.connection) s → IsAsked s moment question.now refusal) }
 {
     match club.ask(alloc, question, moment, &mut sink()) {
         Ok(refusal) => Ok(refusal),
@@ -51,10 +64,11 @@ fn refusal_among<S: Alter>(
 ) -> Result<Option<Refusal>, StoreFault>
     requires { club.old.needs_reopening ≡ false }
     ensures ready { OnOk result (club.new.needs_reopening ≡ false) }
+    ensures same_schema { club.new.has_arbiter ≡ club.old.has_arbiter }
     ensures possible_faults { IfErr result (λ fault. (fault ≡ StoreFault.Store) ⊎ (fault ≡ StoreFault.Memory)) }
     ensures reads { Reads (is_ok result) (state S.Store club.old.connection) (state S.Store club.new.connection) }
     ensures asked { HasCleanDisk (state S.Store club.new.connection) → IfOk result (λ refusal. (s : ClubState) →
-        IsClub s → HasRows (tables s) (state S.Store club.old.connection) →
+        Asks club.old.has_arbiter (state S.Store club.old.connection) s →
         AreAsked s moment questions.now refusal) }
 {
     for question in questions {
@@ -76,11 +90,12 @@ impl Execute for Batch {
 
     ghost unchanged = { λ batch them s moment fault trees is. is };
 
-    ghost untaken = { λ batch s moment bytes fault is. is };
+    ghost untaken = { λ batch s moment bytes fault is. unopened_unrecorded _ fault (λ x. x) is };
 
     ghost no_chapter = { λ batch moment fault. refl };
 
-    // Runs the queries; if none is refused, executes the requests up to the first fault.
+    // Runs the queries; if none is refused, executes the requests up to the first fault. Does nothing if the club
+    // cannot record one of the requests.
     fn execute<S: Alter, W: Write>(
         &self,
         alloc: Global,
@@ -88,6 +103,9 @@ impl Execute for Batch {
         moment: Moment,
         _out: &mut W,
     ) -> Report {
+        if !club.has_arbiter() && needs_any(self.requests.as_slice()) {
+            return Report::StoreFailed(StoreFault::Schema(2));
+        }
         // The numbers are copied first: no outcome may be lost for want of memory.
         let numbers = match Vec::from_slice(alloc, self.numbers.as_slice()) {
             Ok(numbers) => numbers,

@@ -2,20 +2,24 @@
 
 ghost use Rattle.std.specs.Prelude.{◌≡◌};
 ghost use Rattle.club_orders.specs.Causes.{refusal_explained, wrong_value, value_of_event, value_of_import};
-ghost use Rattle.club_orders.specs.Causes.{value_of_member, value_of_seat};
+ghost use Rattle.club_orders.specs.Causes.{value_of_key, value_of_member, value_of_seat};
 ghost use Rattle.club_orders.specs.Lines.{line_of};
 
 use crate::texts::{fault_line, refusal_line, value_line};
 use club_requests::values::{MOST_RECORD_BYTES, is_budget, is_member_key, is_name};
-use club_requests::{AddEvent, AddMember, Command, GameCommand, Import, OnGame, Refusal, Seat};
+use club_requests::{
+    AddEvent, AddMember, Command, GameCommand, Import, NewKey, OnGame, Refusal, Seat,
+};
 
 /// Which argument of a refused command or query is wrong, if the command or query alone tells.
 #[derive(Clone, Copy, Debug, PartialEq, Eq)]
 pub enum WrongValue {
     /// The name of a new member.
     MemberName,
-    /// The key of a new member.
+    /// The key of a new member, or a member's new key.
     MemberKey,
+    /// The member who gets a new key does not exist, or the number is not that of a later key or the next one.
+    KeyOwner,
     /// The name of a new event.
     EventName,
     /// The initial time of each player of an event, in seconds.
@@ -116,10 +120,14 @@ pub enum ExplainedFault {
     NoClub,
     /// 70: `init` was given a file that already has tables.
     NotEmpty,
+    /// 70: `upgrade --arbiter` was given a file without a club, or one with a table of a name that schema 3 needs.
+    NamesTaken,
     /// 71: the file has schema 1.
     OlderSchema,
     /// 71: the file has a schema that this program does not know.
     LaterSchema,
+    /// 71: the command is an arbiter's, and the file has schema 2.
+    NoArbiter,
     /// 72: a table has rows that are not valid for a club.
     Damaged,
     /// 73: another program has locked the file.
@@ -136,6 +144,8 @@ pub enum ExplainedFault {
     NoClock,
     /// 76: the record of an import cannot be read.
     NoRecord,
+    /// 76: the new key of a member cannot be read from standard input.
+    NoKey,
     /// 76: the orders of a batch cannot be read.
     NoOrders,
     /// 76: the server cannot listen on the port.
@@ -177,6 +187,16 @@ fn value_of_member(member: &AddMember) -> WrongValue
         WrongValue::MemberKey
     } else {
         WrongValue::MemberName
+    }
+}
+
+fn value_of_key(given: &NewKey) -> WrongValue
+    ensures { result ≡ value_of_key given.now }
+{
+    if is_member_key(given.key.as_str()) {
+        WrongValue::KeyOwner
+    } else {
+        WrongValue::MemberKey
     }
 }
 
@@ -234,6 +254,7 @@ fn wrong_value(command: &Command) -> Option<WrongValue>
         Command::AddEvent(event) => Some(value_of_event(event)),
         Command::Seat(seat) => Some(value_of_seat(seat)),
         Command::Import(import) => Some(value_of_import(import)),
+        Command::NewKey(given) => Some(value_of_key(given)),
         Command::OnGame(
             OnGame {
                 game: _,

@@ -8,31 +8,35 @@ ghost use Rattle.store_tables.specs.Placed.{HasClubTables};
 ghost use Rattle.store_tables.specs.Contents.{IsEmpty};
 ghost use Rattle.store_tables.specs.Over.{LeavesBeside};
 ghost use Rattle.store_tables.specs.Room.{LeavesNoClub};
-ghost use Rattle.store_tables.specs.Club.{IsExactly, IsOpened};
+ghost use Rattle.store_tables.specs.Club.{IsExactly};
 ghost use Rattle.store_tables.specs.Reading.{KeepsContent};
-ghost use Rattle.store_tables.specs.declared.names.Version.TheVariants.{Current};
+ghost use Rattle.store_tables.specs.Tables.{IsServed, schema_number};
 ghost use Rattle.schema_match.specs.Shapes.{is_of_club};
-ghost use Rattle.club_core.specs.Answer.{answered, outcome_of};
 ghost use Rattle.club_rows.specs.Club.{ClubState, IsClub, tables};
-ghost use Rattle.club_changes.specs.Steps.{club_step};
-ghost use Rattle.store.specs.Histories.{HasState, IsReachableIn};
-ghost use Rattle.cli.specs.declared.words.Task.TheVariants.{Init};
+ghost use Rattle.club_rows.specs.FirstSchema.{IsClubOf};
+ghost use Rattle.club_rows.specs.Tables.{version_of};
+ghost use Rattle.store.specs.Clubs.{version_with};
+ghost use Rattle.store.specs.Histories.{HasState, IsReachable, IsReachableIn};
+ghost use Rattle.store.specs.Upgrades.{uses_names_of};
 ghost use Rattle.club_orders.specs.Batches.{AnswersBatch};
 ghost use Rattle.club_orders.specs.NextStates.{LeavesRequest, LeavesTask};
-ghost use Rattle.club_orders.specs.Report.{given, Answers, IfRequest, IfAsk, IfBatch, IfVerify, IfUnopened};
-ghost use Rattle.club_orders.specs.Report.{IfBoundedSweep};
+ghost use Rattle.club_orders.specs.Report.{given, AnswersCommand, IfRequest, IfAsk, IfBatch, IfVerify, IfUnopened};
+ghost use Rattle.club_orders.specs.Report.{IfBoundedSweep, IfInit, IfUpgrade};
 ghost use Rattle.club_orders.specs.Sweeps.{IsBoundedSweep};
 ghost use Rattle.club_orders.specs.internal.Report.{ask_report};
-ghost use Rattle.club_orders.specs.Report.{IfTaken, IfUpgradeOf, IsRepeated, OnlyUnopened, upgrade_of};
+ghost use Rattle.club_orders.specs.Report.{IfTaken, IfUpgradeOf, IsLedTo, IsRepeated, OnlyUnopened, upgrade_of};
 ghost use Rattle.club_orders.specs.internal.Report.{IsUpgradeResult};
 ghost use Rattle.club_orders.specs.Report.{IsCreated, IsCreation, IsExisting};
 ghost use Rattle.club_orders.specs.internal.Report.{upgrade_report};
 ghost use Rattle.club_orders.specs.Report.{Shows, IsPassed, IsBegun, IsBegunBehind, request_sessions, task_sessions};
-ghost use Rattle.club_orders.specs.Report.{schemas_after, schemas_after_upgrade, writes};
+ghost use Rattle.club_orders.specs.Report.{schema_led_to, schemas_after, schemas_after_upgrade, writes};
 ghost use Rattle.club_check.specs.Refused.{HoldClub};
+ghost use Rattle.club_check.specs.Versions.{HasToldTables, IsOpenedAt};
 ghost use Rattle.club_check.specs.internal.Refused.{IsKept, IsRefusal};
-ghost use Rattle.club_orders.specs.Refused.{HasFirst, IfAccepted, IfOpensClub, IfUpgrade, IsOlder};
-ghost use Rattle.club_orders.specs.internal.Refused.{IsUpgradeRefusal};
+ghost use Rattle.club_orders.specs.Recorded.{IfRecorded};
+ghost use Rattle.club_orders.specs.Refused.{HasEarlier, IfAccepted, IfOpensClub, IsOlder};
+ghost use Rattle.club_orders.specs.internal.Refused.{HasFirst, IsUpgradeRefusal};
+ghost use Rattle.club_orders.specs.internal.Recorded.{unopened_unrecorded};
 
 use crate::open_club::{Execute, execute_in_club, open_checked};
 use crate::report::Report;
@@ -47,28 +51,41 @@ use store::{
     AskFault, Club, OpenFault, Upgrade, crash_keeps_history, create, holds_exactly,
     opened_empty_holds, opened_history_holds, upgrade,
 };
+use store_tables::Version;
 
-// Creates a club.
-fn init<S: Alter>(alloc: Global, conn: Connection<S>) -> (Report, Connection<S>)
+// The schema of a club with or without an arbiter.
+fn version_of(has_arbiter: bool) -> Version
+    ensures is { result ≡ version_with has_arbiter }
+    ensures served { IsServed result }
+{
+    if has_arbiter {
+        Version::V3
+    } else {
+        Version::V2
+    }
+}
+
+// Creates a club, with an arbiter or without one.
+fn init<S: Alter>(alloc: Global, conn: Connection<S>, has_arbiter: bool) -> (Report, Connection<S>)
     requires { conn.in_transaction ≡ false }
     ensures idle { result.1.in_transaction ≡ false }
     ensures clean { doubt (state S.Store conn).is_clean ≤ doubt (state S.Store result.1).is_clean }
     ensures begun { HasCleanDisk (state S.Store result.1) → Opens (state S.Store conn) → IsLive (state S.Store conn) →
         IsEmpty (state S.Store conn).committed.trees →
-        (db : _) → (state S.Store result.1).may_leave db → IsBegun result.0 db }
+        (db : _) → (state S.Store result.1).may_leave db → IsBegun (version_with has_arbiter) result.0 db }
     ensures possible_reports { IsCreation result.0 }
     ensures empty { HasCleanDisk (state S.Store result.1) → Opens (state S.Store conn) → IsLive (state S.Store conn) →
         IsEmpty (state S.Store conn).committed.trees → IsCreated result.0 }
     // Beside foreign tables, which keep their rows.
     ensures behind { HasCleanDisk (state S.Store result.1) → Opens (state S.Store conn) → IsLive (state S.Store conn) →
-        (them : _) → LeavesNoClub them (state S.Store conn).committed.trees →
-        IsCreated result.0
+        (them : _) → them.version ≡ version_with has_arbiter →
+        LeavesNoClub them (state S.Store conn).committed.trees → IsCreated result.0
         × ((db : _) → (state S.Store result.1).may_leave db → IsBegunBehind them result.0 db) }
     ensures existing { HasCleanDisk (state S.Store result.1) → Opens (state S.Store conn) →
         HasClubTables (state S.Store conn).now.schema →
         OnlyUnopened result.0 IsExisting × IsKept (state S.Store conn) (state S.Store result.1) }
     ensures unchanged { HasCleanDisk (state S.Store result.1) → Opens (state S.Store conn) →
-        IsLive (state S.Store conn) → (s : ClubState) → HasState s (state S.Store conn).committed.trees →
+        IsLive (state S.Store conn) → (s : ClubState) → IsClub s → HasState s (state S.Store conn).committed.trees →
         IsKept (state S.Store conn) (state S.Store result.1) }
     ensures spares { HasCleanDisk (state S.Store result.1) → Opens (state S.Store conn) →
         result.0 ≡ Report.Unopened OpenFault.Foreign → IsKept (state S.Store conn) (state S.Store result.1) }
@@ -81,7 +98,7 @@ fn init<S: Alter>(alloc: Global, conn: Connection<S>) -> (Report, Connection<S>)
     holds_exactly(&conn);
     opened_history_holds(&conn);
     crash_keeps_history(&conn);
-    match create(alloc, conn) {
+    match create(alloc, conn, has_arbiter) {
         Ok(club) => {
             let conn = club.into_connection();
             crash_keeps_history(&conn);
@@ -92,8 +109,7 @@ fn init<S: Alter>(alloc: Global, conn: Connection<S>) -> (Report, Connection<S>)
 }
 
 impl Execute for Command {
-    ghost IsAnswer = { λ c s moment before now report. Answers report (λ outcome.
-        outcome_of outcome ≡ answered (club_step s (given c moment))) };
+    ghost IsAnswer = { λ c s moment before now report. AnswersCommand s c moment report };
 
     ghost chapters = { λ c moment report. request_sessions (given c moment) report };
 
@@ -101,7 +117,7 @@ impl Execute for Command {
 
     ghost unchanged = { λ c them s moment fault trees is. is };
 
-    ghost untaken = { λ c s moment bytes fault is. is };
+    ghost untaken = { λ c s moment bytes fault is. unopened_unrecorded _ fault (λ x. x) is };
 
     ghost no_chapter = { λ c moment fault. refl };
 
@@ -157,29 +173,39 @@ impl Execute for Question {
     }
 }
 
-// Migrates a club of schema 1 to schema 2.
-fn run_upgrade<S: Alter>(alloc: Global, conn: Connection<S>) -> (Report, Connection<S>)
-    requires { conn.in_transaction ≡ false }
+// Migrates a club to this schema, unless it is of this schema or a later one.
+fn run_upgrade<S: Alter>(alloc: Global, conn: Connection<S>, to: Version) -> (Report, Connection<S>)
+    requires idle { conn.in_transaction ≡ false }
+    requires served { IsServed to }
     ensures idle { result.1.in_transaction ≡ false }
     ensures clean { doubt (state S.Store conn).is_clean ≤ doubt (state S.Store result.1).is_clean }
     ensures carries { HasCleanDisk (state S.Store result.1) → Opens (state S.Store conn) → IsLive (state S.Store conn) →
-        (them : _) (s : ClubState) → HasFirst them s (state S.Store conn).committed.trees →
-        IsUpgradeResult them s result.0 (state S.Store result.1) }
+        (from : _) (them : _) (s : ClubState) → HasEarlier from them s (state S.Store conn).committed.trees →
+        them.version ≡ to → IsUpgradeResult from them s result.0 (state S.Store result.1) }
     ensures repeats { HasCleanDisk (state S.Store result.1) → Opens (state S.Store conn) → IsLive (state S.Store conn) →
         (s : ClubState) → IsClub s → HasState s (state S.Store conn).committed.trees →
-        IsRepeated result.0 × IsKept (state S.Store conn) (state S.Store result.1) }
+        schema_number to ≤ schema_number (version_of s) →
+        IsRepeated (version_of s) result.0 × IsKept (state S.Store conn) (state S.Store result.1) }
     ensures shape { IfUpgradeOf result.0 (λ version. is_of_club version (state S.Store conn).now.schema ≡ true) }
+    ensures beside { uses_names_of to (state S.Store conn).now.schema ≡ true → (from : _) →
+        result.0 ≢ Report.Upgraded from }
     ensures refuses { HasCleanDisk (state S.Store result.1) →
-        IfUnopened result.0 (IsUpgradeRefusal (state S.Store conn) (state S.Store result.1)) }
+        IfUnopened result.0 (IsUpgradeRefusal to (state S.Store conn) (state S.Store result.1)) }
+    ensures stays { HasCleanDisk (state S.Store result.1) → Opens (state S.Store conn) → IsLive (state S.Store conn) →
+        (from version : _) (them : _) (chapters : _) → schema_number to ≤ schema_number version →
+        IsReachable from version them chapters (state S.Store conn).committed.trees →
+        (db : _) → (state S.Store result.1).may_leave db → IsReachable from version them chapters db }
     ensures history { HasCleanDisk (state S.Store result.1) → Opens (state S.Store conn) → IsLive (state S.Store conn) →
-        (from : _) (versions : _) (them : _) (chapters : _) → them.version ≡ Current →
+        (from : _) (versions : _) (them : _) (chapters : _) → them.version ≡ schema_led_to to result.0 →
         IsReachableIn from versions them chapters (state S.Store conn).committed.trees →
         (db : _) → (state S.Store result.1).may_leave db →
-        IsReachableIn from (schemas_after_upgrade result.0 versions) them (chapters ++ upgrade_of result.0 ∷ []) db }
+        IsReachableIn from (schemas_after_upgrade to result.0 versions) them
+        (chapters ++ upgrade_of to result.0 ∷ []) db }
 {
     holds_exactly(&conn);
+    opened_history_holds(&conn);
     crash_keeps_history(&conn);
-    match upgrade(alloc, conn) {
+    match upgrade(alloc, conn, to) {
         Ok((conn, done)) => {
             crash_keeps_history(&conn);
             (report_of_upgrade(done), conn)
@@ -193,36 +219,42 @@ fn report_of_upgrade(done: Upgrade) -> Report
     ensures { result ≡ upgrade_report done }
 {
     match done {
-        Upgrade::Done => Report::Upgraded,
-        Upgrade::Already => Report::AlreadyUpgraded,
+        Upgrade::Done(from) => Report::Upgraded(from),
+        Upgrade::Already(version) => Report::AlreadyUpgraded(version),
     }
 }
 
-/// Checks every row of a club, and changes nothing. Reports `Report::Sound`, or `Report::Unopened` with the reason, and
-/// returns the connection.
+/// Checks every row of a club, and changes nothing. Reports `Report::Sound` with the club's schema, or
+/// `Report::Unopened` with the reason, and returns the connection.
 ///
 /// # Guarantees
 ///
-/// `legal`: a file reported as sound holds a legal club. `passes`: a legal club is sound, unless a call fails or memory
-/// runs out. `keeps`: the file is unchanged.
+/// `legal`: a file reported as sound holds a legal club. `passes`: a legal club is sound and of its schema, unless a
+/// call fails or memory runs out. `keeps`: the file is unchanged.
 pub fn verify<S: Alter>(alloc: Global, conn: Connection<S>) -> (Report, Connection<S>)
     requires { conn.in_transaction ≡ false }
     ensures idle { result.1.in_transaction ≡ false }
     ensures clean { doubt (state S.Store conn).is_clean ≤ doubt (state S.Store result.1).is_clean }
     ensures passes { HasCleanDisk (state S.Store result.1) → Opens (state S.Store conn) → IsLive (state S.Store conn) →
-        (s : ClubState) → IsClub s → HasState s (state S.Store conn).committed.trees → IsPassed result.0 }
-    ensures sound { HasCleanDisk (state S.Store result.1) → IsOpened (state S.Store conn) → result.0 ≡ Report.Sound →
-        (s : ClubState) × IsClub s × IsExactly (tables s) (state S.Store result.1) }
+        (s : ClubState) → IsClub s → HasState s (state S.Store conn).committed.trees →
+        IsPassed (version_of s) result.0 }
+    // The schema of an accepted file is equivalent to a club's, whatever `CREATE` statements made it.
+    ensures schema { (version : _) → result.0 ≡ Report.Sound version →
+        IsServed version × (is_of_club version (state S.Store conn).now.schema ≡ true) }
+    ensures sound { HasCleanDisk (state S.Store result.1) → (version : _) → result.0 ≡ Report.Sound version →
+        IsOpenedAt version (state S.Store conn) →
+        (s : ClubState) × IsClubOf version s × IsExactly version (tables s) (state S.Store result.1) }
     ensures legal { HasCleanDisk (state S.Store result.1) → Opens (state S.Store conn) → IsLive (state S.Store conn) →
-        HasClubTables (state S.Store conn).now.schema → result.0 ≡ Report.Sound →
+        HasToldTables (state S.Store conn).now → (version : _) → result.0 ≡ Report.Sound version →
         HoldClub (state S.Store conn).committed.trees }
     ensures keeps { HasCleanDisk (state S.Store result.1) → Opens (state S.Store conn) →
         IsKept (state S.Store conn) (state S.Store result.1) }
-    ensures possible_reports { result.0 ≢ Report.Sound → OnlyUnopened result.0 (λ fault. ⊤) }
-    ensures same { HasCleanDisk (state S.Store result.1) → result.0 ≡ Report.Sound →
+    ensures possible_reports { ((version : _) → result.0 ≢ Report.Sound version) →
+        OnlyUnopened result.0 (λ fault. ⊤) }
+    ensures same { HasCleanDisk (state S.Store result.1) → (version : _) → result.0 ≡ Report.Sound version →
         KeepsContent (state S.Store conn) (state S.Store result.1) }
-    // The schema of an accepted file is equivalent to a club's, whatever `CREATE` statements made it.
-    ensures shape { IfTaken result.0 (is_of_club Current (state S.Store conn).now.schema ≡ true) }
+    ensures shape { IfTaken result.0 ((version : _) × IsServed version ×
+        (is_of_club version (state S.Store conn).now.schema ≡ true)) }
     ensures refuses { HasCleanDisk (state S.Store result.1) →
         IfUnopened result.0 (IsRefusal (state S.Store conn) (state S.Store result.1)) }
     ensures older { HasCleanDisk (state S.Store result.1) → Opens (state S.Store conn) → IsLive (state S.Store conn) →
@@ -234,7 +266,10 @@ pub fn verify<S: Alter>(alloc: Global, conn: Connection<S>) -> (Report, Connecti
         (db : _) → (state S.Store result.1).may_leave db → IsReachableIn from versions them sessions db }
 {
     match open_checked(alloc, conn) {
-        Ok(club) => (Report::Sound, club.into_connection()),
+        Ok(club) => {
+            let version = version_of(club.has_arbiter());
+            (Report::Sound(version), club.into_connection())
+        }
         Err(found) => (Report::Unopened(found.fault), found.conn),
     }
 }
@@ -244,16 +279,20 @@ pub fn verify<S: Alter>(alloc: Global, conn: Connection<S>) -> (Report, Connecti
 ///
 /// # Guarantees
 ///
-/// - `answer`, `given`, `asked`: the reported outcomes and the text written are those of the club's specification.
+/// - `answer`, `given`, `asked`: the reported outcomes and the text written are those of the club's specification. A
+///   command of the arbiter, or a batch with one, is fault 71 on a club of schema 2, and changes nothing.
 /// - `bounded`: a sweep with a limit ends no game if more games are overdue, and reports their number.
 /// - `history`: whatever a crash leaves is reached by the earlier history and this task, beside the same foreign
-///   tables. Only an upgrade changes the schema.
+///   tables. Only an upgrade changes the schema (`stays`: never to an earlier one).
 /// - `next_state`: from a legal state, whatever a crash leaves is that state or the next one; the next one after
 ///   success.
-/// - `begun`, `behind`: after the creation of a club, or a crash in it, there is an empty club of schema 2 or no club.
+/// - `begun`, `behind`: after the creation of a club, or a crash in it, there is an empty club of the requested schema
+///   or no club.
 /// - `creation`, `empty`, `existing`: a club is created, or the report says that there is one or that a call failed. An
 ///   existing club is unchanged.
-/// - `shape`: a file is accepted only with the schema of a club; by an upgrade, of either version.
+/// - `carries`, `repeats`: an upgrade carries a club of an earlier schema to the requested one, with the same state,
+///   and leaves any other as it is. `beside`: it carries none where the name of a new table is used.
+/// - `shape`: a file is accepted only with the schema of a club; by an upgrade, of any version.
 /// - `refuses`, `withheld`: the reason why a file was rejected is true, and the file is unchanged. Only an upgrade in
 ///   which a database call failed may have changed it.
 pub fn act<S: Alter, W: Write>(
@@ -267,21 +306,20 @@ pub fn act<S: Alter, W: Write>(
     ensures idle { result.1.in_transaction ≡ false }
     ensures clean { doubt (state S.Store conn).is_clean ≤ doubt (state S.Store result.1).is_clean }
     ensures begun { HasCleanDisk (state S.Store result.1) → Opens (state S.Store conn) → IsLive (state S.Store conn) →
-        task.now ≡ Init → IsEmpty (state S.Store conn).committed.trees →
-        (db : _) → (state S.Store result.1).may_leave db → IsBegun result.0 db }
-    ensures creation { task.now ≡ Init → IsCreation result.0 }
+        IfInit task.now (λ version. IsEmpty (state S.Store conn).committed.trees →
+        (db : _) → (state S.Store result.1).may_leave db → IsBegun version result.0 db) }
+    ensures creation { IfInit task.now (λ version. IsCreation result.0) }
     // In a database without tables the creation fails only if a call fails.
     ensures empty { HasCleanDisk (state S.Store result.1) → Opens (state S.Store conn) → IsLive (state S.Store conn) →
-        task.now ≡ Init → IsEmpty (state S.Store conn).committed.trees → IsCreated result.0 }
+        IfInit task.now (λ version. IsEmpty (state S.Store conn).committed.trees → IsCreated result.0) }
     // Beside foreign tables, too, which keep their rows.
     ensures behind { HasCleanDisk (state S.Store result.1) → Opens (state S.Store conn) → IsLive (state S.Store conn) →
-        task.now ≡ Init → (them : _) → LeavesNoClub them (state S.Store conn).committed.trees →
-        IsCreated result.0
-        × ((db : _) → (state S.Store result.1).may_leave db → IsBegunBehind them result.0 db) }
+        IfInit task.now (λ version. (them : _) → them.version ≡ version →
+        LeavesNoClub them (state S.Store conn).committed.trees → IsCreated result.0
+        × ((db : _) → (state S.Store result.1).may_leave db → IsBegunBehind them result.0 db)) }
     ensures answer { HasCleanDisk (state S.Store result.1) → Opens (state S.Store conn) → IsLive (state S.Store conn) →
         (s : ClubState) → IsClub s → HasState s (state S.Store conn).committed.trees →
-        IfRequest task.now (λ command. Answers result.0 (λ outcome.
-        outcome_of outcome ≡ answered (club_step s (given command moment)))) }
+        IfRequest task.now (λ command. AnswersCommand s command moment result.0) }
     ensures bounded { HasCleanDisk (state S.Store result.1) → Opens (state S.Store conn) →
         IsLive (state S.Store conn) → (s : ClubState) → IsClub s → HasState s (state S.Store conn).committed.trees →
         IfBoundedSweep task.now (λ most. IsBoundedSweep s moment most result.0) }
@@ -293,13 +331,13 @@ pub fn act<S: Alter, W: Write>(
         IfAsk task.now (λ question. Shows s moment question (W.contents out.old) (W.contents out.new) result.0) }
     ensures passes { HasCleanDisk (state S.Store result.1) → Opens (state S.Store conn) → IsLive (state S.Store conn) →
         (s : ClubState) → IsClub s → HasState s (state S.Store conn).committed.trees →
-        IfVerify task.now (IsPassed result.0) }
-    ensures sound { HasCleanDisk (state S.Store result.1) → IsOpened (state S.Store conn) →
-        IfVerify task.now (result.0 ≡ Report.Sound →
-        (s : ClubState) × IsClub s × IsExactly (tables s) (state S.Store result.1)) }
+        IfVerify task.now (IsPassed (version_of s) result.0) }
+    ensures sound { HasCleanDisk (state S.Store result.1) → IfVerify task.now ((version : _) →
+        result.0 ≡ Report.Sound version → IsOpenedAt version (state S.Store conn) →
+        (s : ClubState) × IsClubOf version s × IsExactly version (tables s) (state S.Store result.1)) }
     ensures legal { HasCleanDisk (state S.Store result.1) → Opens (state S.Store conn) → IsLive (state S.Store conn) →
-        HasClubTables (state S.Store conn).now.schema → IfVerify task.now (result.0 ≡ Report.Sound →
-        HoldClub (state S.Store conn).committed.trees) }
+        HasToldTables (state S.Store conn).now → IfVerify task.now ((version : _) →
+        result.0 ≡ Report.Sound version → HoldClub (state S.Store conn).committed.trees) }
     // The schema of an accepted file is equivalent to a club's, whatever `CREATE` statements made it.
     ensures shape { IfAccepted task.now result.0 (λ version.
         is_of_club version (state S.Store conn).now.schema ≡ true) }
@@ -309,34 +347,45 @@ pub fn act<S: Alter, W: Write>(
         (them : _) (s : ClubState) → HasFirst them s (state S.Store conn).committed.trees →
         IfOpensClub task.now (OnlyUnopened result.0 IsOlder) }
     ensures carries { HasCleanDisk (state S.Store result.1) → Opens (state S.Store conn) → IsLive (state S.Store conn) →
-        (them : _) (s : ClubState) → HasFirst them s (state S.Store conn).committed.trees →
-        IfUpgrade task.now (IsUpgradeResult them s result.0 (state S.Store result.1)) }
+        (from : _) (them : _) (s : ClubState) → HasEarlier from them s (state S.Store conn).committed.trees →
+        IfUpgrade task.now (λ to. them.version ≡ to →
+        IsUpgradeResult from them s result.0 (state S.Store result.1)) }
     ensures repeats { HasCleanDisk (state S.Store result.1) → Opens (state S.Store conn) → IsLive (state S.Store conn) →
         (s : ClubState) → IsClub s → HasState s (state S.Store conn).committed.trees →
-        IfUpgrade task.now (IsRepeated result.0 × IsKept (state S.Store conn) (state S.Store result.1)) }
-    ensures withheld { HasCleanDisk (state S.Store result.1) → IfUpgrade task.now (IfUnopened result.0
-        (IsUpgradeRefusal (state S.Store conn) (state S.Store result.1))) }
+        IfUpgrade task.now (λ to. schema_number to ≤ schema_number (version_of s) →
+        IsRepeated (version_of s) result.0 × IsKept (state S.Store conn) (state S.Store result.1)) }
+    ensures beside { IfUpgrade task.now (λ to. uses_names_of to (state S.Store conn).now.schema ≡ true →
+        (from : _) → result.0 ≢ Report.Upgraded from) }
+    ensures withheld { HasCleanDisk (state S.Store result.1) → IfUpgrade task.now (λ to. IfUnopened result.0
+        (IsUpgradeRefusal to (state S.Store conn) (state S.Store result.1))) }
     // No club is created where there is one, sound or damaged.
-    ensures existing { HasCleanDisk (state S.Store result.1) → Opens (state S.Store conn) → task.now ≡ Init →
-        HasClubTables (state S.Store conn).now.schema →
-        OnlyUnopened result.0 IsExisting × IsKept (state S.Store conn) (state S.Store result.1) }
-    ensures spares { HasCleanDisk (state S.Store result.1) → Opens (state S.Store conn) → task.now ≡ Init →
-        result.0 ≡ Report.Unopened OpenFault.Foreign → IsKept (state S.Store conn) (state S.Store result.1) }
+    ensures existing { HasCleanDisk (state S.Store result.1) → Opens (state S.Store conn) →
+        IfInit task.now (λ version. HasClubTables (state S.Store conn).now.schema →
+        OnlyUnopened result.0 IsExisting × IsKept (state S.Store conn) (state S.Store result.1)) }
+    ensures spares { HasCleanDisk (state S.Store result.1) → Opens (state S.Store conn) →
+        IfInit task.now (λ version. result.0 ≡ Report.Unopened OpenFault.Foreign →
+        IsKept (state S.Store conn) (state S.Store result.1)) }
     ensures silent { writes task.now ≡ false → out.new ≡ out.old }
     // From any legal state, whatever history led to it.
     ensures next_state { HasCleanDisk (state S.Store result.1) → Opens (state S.Store conn) →
         IsLive (state S.Store conn) → (s : ClubState) → IsClub s →
         (has : HasState s (state S.Store conn).committed.trees) → (db : _) → (state S.Store result.1).may_leave db →
         LeavesTask has.them s task.now moment result.0 db }
+    // A club of the requested schema or a later one stays, whatever history led to it.
+    ensures stays { HasCleanDisk (state S.Store result.1) → Opens (state S.Store conn) → IsLive (state S.Store conn) →
+        (from version : _) (them : _) (sessions : _) →
+        IsReachable from version them sessions (state S.Store conn).committed.trees →
+        IfUpgrade task.now (λ to. schema_number to ≤ schema_number version →
+        (db : _) → (state S.Store result.1).may_leave db → IsReachable from version them sessions db) }
     ensures history { HasCleanDisk (state S.Store result.1) → Opens (state S.Store conn) → IsLive (state S.Store conn) →
-        (from : _) (versions : _) (them : _) (sessions : _) → them.version ≡ Current →
+        (from : _) (versions : _) (them : _) (sessions : _) → IsLedTo task.now result.0 them.version →
         IsReachableIn from versions them sessions (state S.Store conn).committed.trees →
         (db : _) → (state S.Store result.1).may_leave db →
         IsReachableIn from (schemas_after task.now result.0 versions) them
         (sessions ++ task_sessions task.now moment result.0) db }
 {
     match task {
-        Task::Init => init(alloc, conn),
+        Task::Init { has_arbiter } => init(alloc, conn, *has_arbiter),
         Task::Request(command) => execute_in_club(alloc, conn, command, moment, &mut sink()),
         Task::SweepAtMost(most) => {
             let sweep = BoundedSweep { most: *most };
@@ -344,7 +393,7 @@ pub fn act<S: Alter, W: Write>(
         }
         Task::Ask(question) => execute_in_club(alloc, conn, question, moment, out),
         Task::Verify => verify(alloc, conn),
-        Task::Upgrade => run_upgrade(alloc, conn),
+        Task::Upgrade { has_arbiter } => run_upgrade(alloc, conn, version_of(*has_arbiter)),
         Task::Backup(_) => verify(alloc, conn),
         Task::Batch(batch) => execute_in_club(alloc, conn, batch, moment, &mut sink()),
     }

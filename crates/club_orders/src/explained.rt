@@ -15,7 +15,7 @@ use crate::texts::{object_end, object_text};
 use crate::written::write_out;
 use crate::{ExplainedFault, Explanation, UnreadObject, WrongValue, explain_refusal};
 use cli::Task;
-use club_requests::{Outcome, Question, Refusal};
+use club_requests::{Command, Outcome, Question, Refusal};
 use std::io::Write;
 use store::{OpenFault, StoreFault};
 
@@ -54,6 +54,7 @@ fn input_explained(task: &Task) -> ExplainedFault
 {
     match task {
         Task::Batch(_) => ExplainedFault::NoOrders,
+        Task::Request(Command::NewKey(_)) => ExplainedFault::NoKey,
         _ => ExplainedFault::NoRecord,
     }
 }
@@ -64,7 +65,8 @@ fn opening_explained(task: &Task, fault: OpenFault) -> ExplainedFault
 {
     match fault {
         OpenFault::Foreign => match task {
-            Task::Init => ExplainedFault::NotEmpty,
+            Task::Init { has_arbiter: _ } => ExplainedFault::NotEmpty,
+            Task::Upgrade { has_arbiter: true } => ExplainedFault::NamesTaken,
             _ => ExplainedFault::NoClub,
         },
         OpenFault::Schema(1) => ExplainedFault::OlderSchema,
@@ -83,6 +85,7 @@ pub(crate) fn stop_explained(fault: StoreFault) -> ExplainedFault
         StoreFault::Store => ExplainedFault::Store,
         StoreFault::Reopen => ExplainedFault::Reopen,
         StoreFault::Memory => ExplainedFault::Memory,
+        StoreFault::Schema(_) => ExplainedFault::NoArbiter,
     }
 }
 
@@ -117,9 +120,9 @@ fn report_explained(task: &Task, report: &Report) -> Option<Explanation>
         Report::PortUnavailable => Some(Explanation::Fault(ExplainedFault::NoPort)),
         Report::NoMemory => Some(Explanation::Fault(ExplainedFault::Memory)),
         Report::Ready => None,
-        Report::Sound => None,
-        Report::Upgraded => None,
-        Report::AlreadyUpgraded => None,
+        Report::Sound(_) => None,
+        Report::Upgraded(_) => None,
+        Report::AlreadyUpgraded(_) => None,
         Report::Copied => None,
         Report::Shown => None,
         // The report of a batch has a line for each refused request instead.

@@ -4,17 +4,20 @@ ghost use Rattle.std.specs.Prelude.{◌≡◌, ◌≤◌, ◌⊎◌, ◌++◌, �
 ghost use Rattle.sqlite.specs.State.{HasCleanDisk, Opens, IsLive};
 ghost use Rattle.sqlite.specs.Held.{state};
 ghost use Rattle.sqlite_trees.specs.View.{doubt};
-ghost use Rattle.store_tables.specs.Club.{IsExactly, IsOpened};
+ghost use Rattle.store_tables.specs.Club.{IsExactly};
 ghost use Rattle.sqlite.specs.Tree.{Trees};
-ghost use Rattle.store_tables.specs.Over.{HoldsClubAmong, LeavesBeside, Neighbours};
+ghost use Rattle.store_tables.specs.Over.{LeavesBeside, Neighbours};
 ghost use Rattle.store_tables.specs.Reading.{OnlyReads, Reads};
-ghost use Rattle.store_tables.specs.declared.names.Version.TheVariants.{Current};
+ghost use Rattle.store_tables.specs.Tables.{IsServed};
 ghost use Rattle.schema_match.specs.Shapes.{is_of_club};
 ghost use Rattle.club_rows.specs.Club.{ClubState, IsClub, tables};
+ghost use Rattle.club_rows.specs.FirstSchema.{IsClubOf};
+ghost use Rattle.club_check.specs.Versions.{IsOpenedAt};
 ghost use Rattle.club_check.specs.internal.Refused.{IsRefusal};
+ghost use Rattle.store.specs.Clubs.{Serves, version_with};
 ghost use Rattle.store.specs.Histories.{HistoryStep, HasState, IsHistory, IsReachable, IsReachableIn};
-ghost use Rattle.club_orders.specs.Refused.{HasFirst, IsOlder};
-ghost use Rattle.club_orders.specs.internal.Refused.{IsTakenOver};
+ghost use Rattle.club_orders.specs.Refused.{IsOlder};
+ghost use Rattle.club_orders.specs.internal.Refused.{HasFirst, IsTakenOver};
 ghost use Rattle.club_orders.specs.Report.{IfTaken, IfUnopened, OnlyUnopened};
 
 use crate::report::Report;
@@ -38,12 +41,15 @@ pub(crate) fn open_checked<S: Alter>(
     requires { conn.in_transaction ≡ false }
     ensures ready { IfOk result (λ club. club.needs_reopening ≡ false) }
     // The schema of an accepted file is equivalent to a club's, whatever `CREATE` statements made it.
-    ensures shape { IfOk result (λ club. is_of_club Current (state S.Store conn).now.schema ≡ true) }
+    ensures shape { IfOk result (λ club. is_of_club (version_with club.has_arbiter) (state S.Store conn).now.schema ≡
+        true) }
     ensures taken { IfOk result (λ club. HasCleanDisk (state S.Store club.connection) → Opens (state S.Store conn) →
-        IsLive (state S.Store conn) → IsTakenOver (state S.Store conn) (state S.Store club.connection)) }
-    ensures found { IfOk result (λ club. HasCleanDisk (state S.Store club.connection) →
-        IsOpened (state S.Store conn) → (s : ClubState) × IsClub s × IsExactly (tables s)
+        IsLive (state S.Store conn) → IsTakenOver club.has_arbiter (state S.Store conn)
         (state S.Store club.connection)) }
+    ensures found { IfOk result (λ club. HasCleanDisk (state S.Store club.connection) →
+        IsOpenedAt (version_with club.has_arbiter) (state S.Store conn) →
+        (s : ClubState) × IsClubOf (version_with club.has_arbiter) s × IsExactly (version_with club.has_arbiter)
+        (tables s) (state S.Store club.connection)) }
     ensures kept { IfOk result (λ club. Reads true (state S.Store conn) (state S.Store club.connection)) }
     ensures idle { IfErr result (λ u. u.conn.in_transaction ≡ false) }
     ensures reads { IfErr result (λ u. OnlyReads (state S.Store conn) (state S.Store u.conn)) }
@@ -97,15 +103,16 @@ pub(crate) trait Execute {
         ensures clean { doubt (state S.Store club.old.connection).is_clean ≤ doubt
             (state S.Store club.new.connection).is_clean }
         ensures answer { HasCleanDisk (state S.Store club.new.connection) → (them : _) (s : ClubState) →
-            IsClub s → them.version ≡ Current → HoldsClubAmong them (tables s) (state S.Store club.old.connection) →
+            Serves club.old.has_arbiter (state S.Store club.old.connection) them s →
             IsAnswer self.now s moment (W.contents out.old) (W.contents out.new) result }
         ensures next_state { HasCleanDisk (state S.Store club.new.connection) → (them : _) (s : ClubState) →
-            IsClub s → them.version ≡ Current → HoldsClubAmong them (tables s) (state S.Store club.old.connection) →
+            Serves club.old.has_arbiter (state S.Store club.old.connection) them s →
             (db : _) → (state S.Store club.new.connection).may_leave db → Leaves self.now them s moment result db }
         ensures history { HasCleanDisk (state S.Store club.new.connection) → (from : _) (them : _) (sessions : _) →
-            IsHistory from Current them sessions (state S.Store club.old.connection) →
+            IsHistory from (version_with club.old.has_arbiter) them sessions (state S.Store club.old.connection) →
             (db : _) → (state S.Store club.new.connection).may_leave db →
-            IsReachable from Current them (sessions ++ chapters self.now moment result) db };
+            IsReachable from (version_with club.old.has_arbiter) them (sessions ++ chapters self.now moment result)
+            db };
 
     /// If a call failed or memory ran out while the club was opened, that fault is an answer.
     ghost untaken: { (task : Self) (s : ClubState) (moment : ℕ) (bytes : Option (List ℕ)) (fault : OpenFault) →
@@ -136,7 +143,8 @@ pub(crate) fn execute_in_club<S: Alter, T: Execute, W: Write>(
         (s : ClubState) → IsClub s → HasState s (state S.Store conn).committed.trees →
         T.IsAnswer task.now s moment (W.contents out.old) (W.contents out.new) result.0 }
     // The schema of an accepted file is equivalent to a club's, whatever `CREATE` statements made it.
-    ensures shape { IfTaken result.0 (is_of_club Current (state S.Store conn).now.schema ≡ true) }
+    ensures shape { IfTaken result.0 ((version : _) × IsServed version ×
+        (is_of_club version (state S.Store conn).now.schema ≡ true)) }
     ensures refuses { HasCleanDisk (state S.Store result.1) →
         IfUnopened result.0 (IsRefusal (state S.Store conn) (state S.Store result.1)) }
     ensures older { HasCleanDisk (state S.Store result.1) → Opens (state S.Store conn) → IsLive (state S.Store conn) →
@@ -147,7 +155,7 @@ pub(crate) fn execute_in_club<S: Alter, T: Execute, W: Write>(
         (has : HasState s (state S.Store conn).committed.trees) → (db : _) → (state S.Store result.1).may_leave db →
         T.Leaves task.now has.them s moment result.0 db }
     ensures history { HasCleanDisk (state S.Store result.1) → Opens (state S.Store conn) → IsLive (state S.Store conn) →
-        (from : _) (versions : _) (them : _) (sessions : _) → them.version ≡ Current →
+        (from : _) (versions : _) (them : _) (sessions : _) → IsServed them.version →
         IsReachableIn from versions them sessions (state S.Store conn).committed.trees →
         (db : _) → (state S.Store result.1).may_leave db →
         IsReachableIn from versions them (sessions ++ T.chapters task.now moment result.0) db }

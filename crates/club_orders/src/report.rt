@@ -12,6 +12,7 @@ use club_requests::Outcome;
 use std::alloc::AllocError;
 use std::io::Write;
 use store::{OpenFault, StoreFault};
+use store_tables::Version;
 
 /// Exit status: success.
 pub const DONE: u8 = 0;
@@ -36,12 +37,12 @@ pub enum Report {
     Overdue(u64),
     /// A batch was executed, up to the first fault.
     Batched(BatchResults),
-    /// The file holds a legal club.
-    Sound,
-    /// The file was of schema 1 and is now of schema 2.
-    Upgraded,
-    /// The file is of schema 2 already and is unchanged.
-    AlreadyUpgraded,
+    /// The file holds a legal club of this schema.
+    Sound(Version),
+    /// The file was of this earlier schema and is now of the requested one.
+    Upgraded(Version),
+    /// The file is of this schema, the requested one or a later one, and is unchanged.
+    AlreadyUpgraded(Version),
     /// A backup was written.
     Copied,
     /// The answer to a query was written.
@@ -81,9 +82,9 @@ impl Report {
     {
         match self {
             Report::Ready => DONE,
-            Report::Sound => DONE,
-            Report::Upgraded => DONE,
-            Report::AlreadyUpgraded => DONE,
+            Report::Sound(_) => DONE,
+            Report::Upgraded(_) => DONE,
+            Report::AlreadyUpgraded(_) => DONE,
             Report::Copied => DONE,
             Report::Answered(Outcome::Accepted(_)) => DONE,
             Report::Answered(Outcome::Repeated(_)) => DONE,
@@ -115,9 +116,9 @@ fn write_report(text: &mut String, report: &Report) -> Result<(), AllocError>
 {
     match report {
         Report::Ready => writeln!(text, "ready"),
-        Report::Sound => writeln!(text, "sound"),
-        Report::Upgraded => writeln!(text, "upgraded"),
-        Report::AlreadyUpgraded => writeln!(text, "repeated upgrade"),
+        Report::Sound(_) => writeln!(text, "sound"),
+        Report::Upgraded(_) => writeln!(text, "upgraded"),
+        Report::AlreadyUpgraded(_) => writeln!(text, "repeated upgrade"),
         Report::Copied => writeln!(text, "copied"),
         Report::Answered(outcome) => writeln!(text, "{outcome}"),
         Report::Overdue(count) => writeln!(text, "overdue {count}"),

@@ -8,7 +8,7 @@ use crate::causes::{ExplainedFault, FileFault, ObjectKind, WrongValue};
 use club_requests::Refusal;
 use club_rules::{GameKind, MoveRefusal, RecordFormat, RecordRefusal};
 
-// Refusals by the club, 50 to 67, in the order of their checks.
+// Refusals by the club, 50 to 68, in the order of their numbers.
 
 // 50
 const UNKNOWN_KEY: &str = "no member has this key\n";
@@ -31,8 +31,8 @@ const WRONG_PLY: &str =
     "PLY is 0, or moves before it are missing; 'games' shows how many plies were played\n";
 // 58
 const CONFLICT: &str =
-    "another move was played at this PLY, or this KEY belongs to another game; 'games' lists the \
-    keys\n";
+    "another move was played at this PLY, another key was given under this NUMBER, or this KEY \
+    belongs to another game; 'games' lists the keys of games\n";
 // 59
 const NOT_YOUR_TURN: &str = "it is the other side's turn\n";
 // 60
@@ -45,13 +45,18 @@ const NO_OFFER: &str = "there is no draw offer by the other side at this ply\n";
 const NOT_IN_THIS_GAME: &str = "a draw cannot be agreed in this game\n";
 // 64
 const NAME_TAKEN: &str =
-    "the name is taken with other values, or another member has this key; choose another\n";
+    "the name is taken with other values, or a member has or had this key; choose another\n";
 // 65
 const BAD_VALUE: &str = "a value is not allowed: --help after the command shows the limits\n";
 // 66
-const FULL: &str = "the club is full: it holds 200 members, 50 events and 5,000 games\n";
+const FULL: &str =
+    "the club is full: it holds 200 members, 50 events and 5,000 games, and each member 99 later \
+    keys\n";
 // 67
 const NOT_DECLARABLE: &str = "the side to move may not declare a win in this position\n";
+// 68
+const EVENT_CLOSED: &str =
+    "the event is closed to challenges; 'seat' can still start games in it\n";
 
 // Refusals of a move by the rules of the games, 10 to 19, and of its text, 20, 21 and 30.
 
@@ -119,6 +124,10 @@ const MEMBER_NAME: &str =
 const MEMBER_KEY: &str =
     "this value is not allowed: KEY, the member's secret, must be 8 to 64 letters and digits\n";
 
+const KEY_OWNER: &str =
+    "NAME is not a member, or NUMBER is not that of a later key or the next one; 'members' lists \
+    both\n";
+
 const EVENT_NAME: &str =
     "this value is not allowed: NAME of the event must be 1 to 24 letters, digits, '.', '_' or \
     '-'\n";
@@ -171,11 +180,19 @@ const NO_CLUB: &str =
     "FILE does not exist or holds no club: check its path, or create a club with 'init'\n";
 // 70, of init
 const NOT_EMPTY: &str = "FILE already has tables: 'init' needs a new or an empty file\n";
+// 70, of upgrade --arbiter
+const NAMES_TAKEN: &str =
+    "FILE does not exist or holds no club, or it has a table keys, rulings or closings, which \
+    schema 3 needs: rename that table\n";
 // 71, schema 1
 const OLDER_SCHEMA: &str =
     "an earlier version of the program made FILE: back it up, then run 'upgrade'\n";
 // 71
 const LATER_SCHEMA: &str = "a later version of the program made FILE: use that version\n";
+// 71, schema 2, of an arbiter's command
+const NO_ARBITER: &str =
+    "FILE is of schema 2, which cannot record what an arbiter does: back it up, then run 'upgrade \
+    --arbiter'\n";
 // 72
 const DAMAGED: &str = "another program has changed rows of this table: restore a backup\n";
 // 73
@@ -240,6 +257,8 @@ const NO_CLOCK: &str =
     "the system clock cannot be read or is out of range: set it, or give --now\n";
 // 76
 const NO_RECORD: &str = "RECORD cannot be read: check its path\n";
+// 76, of key
+const NO_KEY: &str = "the standard input, which holds KEY, cannot be read\n";
 // 76
 const NO_ORDERS: &str = "ORDERS cannot be read: check its path\n";
 // 76
@@ -290,6 +309,7 @@ pub(crate) fn refusal_line(refusal: Refusal) -> &'static str
         Refusal::BadValue => BAD_VALUE,
         Refusal::Full => FULL,
         Refusal::NotDeclarable => NOT_DECLARABLE,
+        Refusal::EventClosed => EVENT_CLOSED,
         Refusal::Play { ply: _, refusal } => move_line(refusal),
         Refusal::Record(refusal) => record_line(refusal),
     }
@@ -342,6 +362,7 @@ pub(crate) fn value_line(value: WrongValue) -> &'static str
     match value {
         WrongValue::MemberName => MEMBER_NAME,
         WrongValue::MemberKey => MEMBER_KEY,
+        WrongValue::KeyOwner => KEY_OWNER,
         WrongValue::EventName => EVENT_NAME,
         WrongValue::Budget => BUDGET,
         WrongValue::Increment => INCREMENT,
@@ -391,8 +412,10 @@ pub(crate) fn fault_line(fault: ExplainedFault) -> &'static str
     match fault {
         ExplainedFault::NoClub => NO_CLUB,
         ExplainedFault::NotEmpty => NOT_EMPTY,
+        ExplainedFault::NamesTaken => NAMES_TAKEN,
         ExplainedFault::OlderSchema => OLDER_SCHEMA,
         ExplainedFault::LaterSchema => LATER_SCHEMA,
+        ExplainedFault::NoArbiter => NO_ARBITER,
         ExplainedFault::Damaged => DAMAGED,
         ExplainedFault::InUse => IN_USE,
         ExplainedFault::NotOpened(cause) => file_line(cause),
@@ -401,6 +424,7 @@ pub(crate) fn fault_line(fault: ExplainedFault) -> &'static str
         ExplainedFault::Memory => MEMORY,
         ExplainedFault::NoClock => NO_CLOCK,
         ExplainedFault::NoRecord => NO_RECORD,
+        ExplainedFault::NoKey => NO_KEY,
         ExplainedFault::NoOrders => NO_ORDERS,
         ExplainedFault::NoPort => NO_PORT,
         ExplainedFault::NoOutput => NO_OUTPUT,

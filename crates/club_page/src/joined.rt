@@ -334,7 +334,8 @@ pub fn page_1() -> &'static str
      angemeldet.','Deze sleutel is van {name}. U bent aangemeld als {name}\
      .','\\u3053\\u306e\\u30ad\\u30fc\\u306f{name}\\u3055\\u3093\\u306e\\u3082\\u306e\\u3067\\u3059\\u3002{name}\
      \\u3055\\u3093\\u3068\\u3057\\u3066\\u30ed\\u30b0\\u30a4\\u30f3\\u3057\\u307e\\u3057\\u305f\\u3002','Cette cl\\u00\
-     e9 appartient \\u00e0 {name}. Vous jo"
+     e9 appartient \\u00e0 {name}. Vous jouez sous le nom {name}\
+     .'],remember:['Stay signed in on this device','Auf diesem Ger\\"
 }
 
 /// Part 2 of the page, in ASCII.
@@ -342,53 +343,51 @@ pub fn page_1() -> &'static str
 pub fn page_2() -> &'static str
     ensures { result.now ≡ page_2 }
 {
-    "uez sous le nom {name}\
-     .'],remember:['Stay signed in on this device','Auf diesem Ger\\u00e4t angemeldet bleiben','Aangemeld \
-     blijven op dit apparaat','\\u3053\\u306e\\u7aef\\u672b\\u3067\\u30ed\\u30b0\\u30a4\\u30f3\\u3057\\u305f\\u307e\\\
-     u307e\\u306b\\u3059\\u308b','Garder la session ouverte sur cet appareil'],signIn:['Sign in','Anmelden'\
-     ,'Aanmelden','\\u30ed\\u30b0\\u30a4\\u30f3','Se connecter'],signOut:['Sign out','Abmelden','Afmelden','\
-     \\u30ed\\u30b0\\u30a2\\u30a6\\u30c8','Se d\\u00e9connecter'],home:['My games','Meine Partien','Mijn parti\
-     jen','\\u5bfe\\u5c40\\u4e00\\u89a7','Mes parties'],settings:['Settings','Einstellungen','Instellingen',\
-     '\\u8a2d\\u5b9a','R\\u00e9glages'],done:['Done','Fertig','Klaar','\\u9589\\u3058\\u308b','Termin\\u00e9'],\
-     analyse:['Analyse','Analysieren','Analyseren','\\u691c\\u8a0e\\u3059\\u308b','Analyser'],analysis:['Ana\
-     lysis:','Analyse:','Analyse:','\\u691c\\u8a0e\\uff1a','Analyse\\u00a0:'],analysisHint:['Try moves for b\
-     oth sides. None is sent, and your opponent sees nothing.','Probieren Sie Z\\u00fcge f\\u00fcr beide S\
-     eiten. Keiner wird gesendet, und Ihr Gegner sieht nichts davon.','Probeer zetten voor beide kanten. \
-     Er wordt niets verzonden en uw tegenstander ziet er niets van.','\\u53cc\\u65b9\\u306e\\u624b\\u3092\\u8a\
-     66\\u305b\\u307e\\u3059\\u3002\\u9001\\u4fe1\\u3055\\u308c\\u305a\\u3001\\u76f8\\u624b\\u306b\\u3082\\u898b\\u3048\\\
-     u307e\\u305b\\u3093\\u3002','Essayez des coups des deux c\\u00f4t\\u00e9s. Rien n\\u2019est envoy\\u00e9, \
-     et votre adversaire n\\u2019en voit rien.'],undo:['Undo','R\\u00fcckg\\u00e4ngig','Ongedaan maken','\\u\
-     4e00\\u624b\\u623b\\u3059','Annuler'],backToGame:['Back to the game','Zur\\u00fcck zur Partie','Terug n\
-     aar de partij','\\u5bfe\\u5c40\\u306b\\u623b\\u308b','Retour \\u00e0 la partie'],confirmChoice:['Confirm \
-     each move before it is sent','Jeden Zug vor dem Senden best\\u00e4tigen','Elke zet bevestigen voorda\
-     t deze wordt verzonden','\\u6307\\u3057\\u624b\\u3092\\u9001\\u4fe1\\u3059\\u308b\\u524d\\u306b\\u78ba\\u8a8d\\u\
-     3059\\u308b','Confirmer chaque coup avant l\\u2019envoi'],animateChoice:['Animate moves','Z\\u00fcge a\
-     nimieren','Zetten animeren','\\u99d2\\u306e\\u52d5\\u304d\\u3092\\u30a2\\u30cb\\u30e1\\u30fc\\u30b7\\u30e7\\u30\
-     f3\\u3067\\u8868\\u793a\\u3059\\u308b','Animer les coups'],alertsChoice:['Notify me when something is wa\
-     iting for me or a game ends, while this page is open in a tab','Mich benachrichtigen, wenn etwas au\
-     f mich wartet oder eine Partie endet, solange diese Seite in einem Tab ge\\u00f6ffnet ist','Een meld\
-     ing geven als er iets op mij wacht of een partij is afgelopen, zolang deze pagina in een tabblad op\
-     enstaat','\\u624b\\u756a\\u3084\\u6311\\u6226\\u306a\\u3069\\u304c\\u6765\\u305f\\u3068\\u304d\\u3001\\u5bfe\\u5c4\
-     0\\u304c\\u7d42\\u308f\\u3063\\u305f\\u3068\\u304d\\u306b\\u901a\\u77e5\\u3059\\u308b\\uff08\\u3053\\u306e\\u30da\\u\
-     30fc\\u30b8\\u3092\\u30bf\\u30d6\\u3067\\u958b\\u3044\\u3066\\u3044\\u308b\\u9593\\uff09','M\\u2019avertir quand \
-     quelque chose m\\u2019attend ou qu\\u2019une partie se termine, tant que cette page est ouverte dans \
-     un onglet'],soundChoice:['Play a sound in the same cases','In denselben F\\u00e4llen einen Ton abspi\
-     elen','In dezelfde gevallen een geluid afspelen','\\u540c\\u3058\\u3068\\u304d\\u306b\\u97f3\\u3092\\u9cf4\\\
-     u3089\\u3059','\\u00c9mettre un son dans les m\\u00eames cas'],alertsRefused:['The browser does not al\
-     low notifications from this page.','Der Browser erlaubt dieser Seite keine Benachrichtigungen.','De \
-     browser staat meldingen van deze pagina niet toe.','\\u30d6\\u30e9\\u30a6\\u30b6\\u30fc\\u304c\\u3053\\u306\
-     e\\u30da\\u30fc\\u30b8\\u306e\\u901a\\u77e5\\u3092\\u8a31\\u53ef\\u3057\\u3066\\u3044\\u307e\\u305b\\u3093\\u3002',\
-     'Le navigateur n\\u2019autorise pas les notifications de cette page.'],lettersChoice:['Western lette\
-     rs on shogi pieces','Lateinische Buchstaben auf Shogi-Steinen','Latijnse letters op shogistukken','\
-     \\u5c06\\u68cb\\u306e\\u99d2\\u3092\\u30a2\\u30eb\\u30d5\\u30a1\\u30d9\\u30c3\\u30c8\\u3067\\u8868\\u793a\\u3059\\u3\
-     08b','Lettres latines sur les pi\\u00e8ces de shogi'],loading:['Loading\\u2026','Wird geladen\\u00a0\\u\
-     2026','Laden\\u2026','\\u8aad\\u307f\\u8fbc\\u307f\\u4e2d\\u2026','Chargement\\u2026'],missing:['The addres\
-     s may be wrong, or belong to another club.','Vielleicht ist die Adresse falsch oder geh\\u00f6rt zu \
-     einem anderen Club.','Misschien is het adres onjuist of van een andere club.','\\u30a2\\u30c9\\u30ec\\u\
-     30b9\\u304c\\u9593\\u9055\\u3063\\u3066\\u3044\\u308b\\u304b\\u3001\\u5225\\u306e\\u30af\\u30e9\\u30d6\\u306e\\u308\
-     2\\u306e\\u304b\\u3082\\u3057\\u308c\\u307e\\u305b\\u3093\\u3002','L\\u2019adresse est peut-\\u00eatre erron\\u\
-     00e9e ou celle d\\u2019un autre club.'],news:['Games awaiting your move: {moves}\
-     . Challenges: {challenges}.','Partien, in denen Sie am Zug sind: {moves}\
+    "u00e4t angemeldet bleiben','Aangemeld blijven op dit apparaat','\\u3053\\u306e\\u7aef\\u672b\\u3067\\u30\
+     ed\\u30b0\\u30a4\\u30f3\\u3057\\u305f\\u307e\\u307e\\u306b\\u3059\\u308b','Garder la session ouverte sur cet \
+     appareil'],signIn:['Sign in','Anmelden','Aanmelden','\\u30ed\\u30b0\\u30a4\\u30f3','Se connecter'],sign\
+     Out:['Sign out','Abmelden','Afmelden','\\u30ed\\u30b0\\u30a2\\u30a6\\u30c8','Se d\\u00e9connecter'],home:\
+     ['My games','Meine Partien','Mijn partijen','\\u5bfe\\u5c40\\u4e00\\u89a7','Mes parties'],settings:['Se\
+     ttings','Einstellungen','Instellingen','\\u8a2d\\u5b9a','R\\u00e9glages'],done:['Done','Fertig','Klaar\
+     ','\\u9589\\u3058\\u308b','Termin\\u00e9'],analyse:['Analyse','Analysieren','Analyseren','\\u691c\\u8a0e\\\
+     u3059\\u308b','Analyser'],analysis:['Analysis:','Analyse:','Analyse:','\\u691c\\u8a0e\\uff1a','Analyse\\\
+     u00a0:'],analysisHint:['Try moves for both sides. None is sent, and your opponent sees nothing.','P\
+     robieren Sie Z\\u00fcge f\\u00fcr beide Seiten. Keiner wird gesendet, und Ihr Gegner sieht nichts dav\
+     on.','Probeer zetten voor beide kanten. Er wordt niets verzonden en uw tegenstander ziet er niets v\
+     an.','\\u53cc\\u65b9\\u306e\\u624b\\u3092\\u8a66\\u305b\\u307e\\u3059\\u3002\\u9001\\u4fe1\\u3055\\u308c\\u305a\\u3\
+     001\\u76f8\\u624b\\u306b\\u3082\\u898b\\u3048\\u307e\\u305b\\u3093\\u3002','Essayez des coups des deux c\\u00f\
+     4t\\u00e9s. Rien n\\u2019est envoy\\u00e9, et votre adversaire n\\u2019en voit rien.'],undo:['Undo','R\\\
+     u00fcckg\\u00e4ngig','Ongedaan maken','\\u4e00\\u624b\\u623b\\u3059','Annuler'],backToGame:['Back to the \
+     game','Zur\\u00fcck zur Partie','Terug naar de partij','\\u5bfe\\u5c40\\u306b\\u623b\\u308b','Retour \\u00\
+     e0 la partie'],confirmChoice:['Confirm each move before it is sent','Jeden Zug vor dem Senden best\\\
+     u00e4tigen','Elke zet bevestigen voordat deze wordt verzonden','\\u6307\\u3057\\u624b\\u3092\\u9001\\u4fe\
+     1\\u3059\\u308b\\u524d\\u306b\\u78ba\\u8a8d\\u3059\\u308b','Confirmer chaque coup avant l\\u2019envoi'],anim\
+     ateChoice:['Animate moves','Z\\u00fcge animieren','Zetten animeren','\\u99d2\\u306e\\u52d5\\u304d\\u3092\\\
+     u30a2\\u30cb\\u30e1\\u30fc\\u30b7\\u30e7\\u30f3\\u3067\\u8868\\u793a\\u3059\\u308b','Animer les coups'],alerts\
+     Choice:['Notify me when something is waiting for me or a game ends, while this page is open in a ta\
+     b','Mich benachrichtigen, wenn etwas auf mich wartet oder eine Partie endet, solange diese Seite in \
+     einem Tab ge\\u00f6ffnet ist','Een melding geven als er iets op mij wacht of een partij is afgelopen\
+     , zolang deze pagina in een tabblad openstaat','\\u624b\\u756a\\u3084\\u6311\\u6226\\u306a\\u3069\\u304c\\u6\
+     765\\u305f\\u3068\\u304d\\u3001\\u5bfe\\u5c40\\u304c\\u7d42\\u308f\\u3063\\u305f\\u3068\\u304d\\u306b\\u901a\\u77e5\
+     \\u3059\\u308b\\uff08\\u3053\\u306e\\u30da\\u30fc\\u30b8\\u3092\\u30bf\\u30d6\\u3067\\u958b\\u3044\\u3066\\u3044\\u3\
+     08b\\u9593\\uff09','M\\u2019avertir quand quelque chose m\\u2019attend ou qu\\u2019une partie se termine\
+     , tant que cette page est ouverte dans un onglet'],soundChoice:['Play a sound in the same cases','I\
+     n denselben F\\u00e4llen einen Ton abspielen','In dezelfde gevallen een geluid afspelen','\\u540c\\u30\
+     58\\u3068\\u304d\\u306b\\u97f3\\u3092\\u9cf4\\u3089\\u3059','\\u00c9mettre un son dans les m\\u00eames cas'],\
+     alertsRefused:['The browser does not allow notifications from this page.','Der Browser erlaubt dies\
+     er Seite keine Benachrichtigungen.','De browser staat meldingen van deze pagina niet toe.','\\u30d6\\\
+     u30e9\\u30a6\\u30b6\\u30fc\\u304c\\u3053\\u306e\\u30da\\u30fc\\u30b8\\u306e\\u901a\\u77e5\\u3092\\u8a31\\u53ef\\u30\
+     57\\u3066\\u3044\\u307e\\u305b\\u3093\\u3002','Le navigateur n\\u2019autorise pas les notifications de cet\
+     te page.'],lettersChoice:['Western letters on shogi pieces','Lateinische Buchstaben auf Shogi-Stein\
+     en','Latijnse letters op shogistukken','\\u5c06\\u68cb\\u306e\\u99d2\\u3092\\u30a2\\u30eb\\u30d5\\u30a1\\u30d\
+     9\\u30c3\\u30c8\\u3067\\u8868\\u793a\\u3059\\u308b','Lettres latines sur les pi\\u00e8ces de shogi'],loadin\
+     g:['Loading\\u2026','Wird geladen\\u00a0\\u2026','Laden\\u2026','\\u8aad\\u307f\\u8fbc\\u307f\\u4e2d\\u2026',\
+     'Chargement\\u2026'],missing:['The address may be wrong, or belong to another club.','Vielleicht ist \
+     die Adresse falsch oder geh\\u00f6rt zu einem anderen Club.','Misschien is het adres onjuist of van \
+     een andere club.','\\u30a2\\u30c9\\u30ec\\u30b9\\u304c\\u9593\\u9055\\u3063\\u3066\\u3044\\u308b\\u304b\\u3001\\u\
+     5225\\u306e\\u30af\\u30e9\\u30d6\\u306e\\u3082\\u306e\\u304b\\u3082\\u3057\\u308c\\u307e\\u305b\\u3093\\u3002','L\\\
+     u2019adresse est peut-\\u00eatre erron\\u00e9e ou celle d\\u2019un autre club.'],news:['Games awaiting \
+     your move: {moves}. Challenges: {challenges}.','Partien, in denen Sie am Zug sind: {moves}\
      . Herausforderungen: {challenges}.','Partijen waarin u aan zet bent: {moves}\
      . Uitdagingen: {challenges}.','\\u624b\\u756a\\u306e\\u5bfe\\u5c40\\uff1a{moves}\
      \\u5c40\\u3002\\u6311\\u6226\\uff1a{challenges}\
@@ -640,10 +639,12 @@ pub fn page_2() -> &'static str
      'Le club ne peut plus accueillir de parties'],67:['The entered king cannot be declared here','Der K\
      \\u00f6nigseintritt kann hier nicht erkl\\u00e4rt werden','De koningsintrede kan hier niet worden gec\
      laimd','\\u3053\\u3053\\u3067\\u306f\\u5165\\u7389\\u5ba3\\u8a00\\u306f\\u3067\\u304d\\u307e\\u305b\\u3093','L\\u2\
-     019entr\\u00e9e du roi ne peut pas \\u00eatre d\\u00e9clar\\u00e9e ici'],72:['The club\\u2019s file cann\
-     ot be used; please tell the officer','Die Datei des Clubs ist nicht nutzbar; \
+     019entr\\u00e9e du roi ne peut pas \\u00eatre d\\u00e9clar\\u00e9e ici'],68:['Closed to challenges','Ke\
+     ine Herausforderungen mehr','Gesloten voor uitdagingen','\\u6311\\u6226\\u306e\\u53d7\\u4ed8\\u7d42\\u4e86\
+     ','Ferm\\u00e9 aux d\\u00e9fis'],72:['The club\\u2019s file cannot be used; \
+     please tell the officer','Die Datei des Clubs ist nicht nutzbar; \
      bitte informieren Sie den Turnierleiter','Het bestand van de club is niet bruikbaar; \
-     waarschuw de wed"
+     waarschuw de wedstrijdle"
 }
 
 /// Part 3 of the page, in ASCII.
@@ -651,9 +652,9 @@ pub fn page_2() -> &'static str
 pub fn page_3() -> &'static str
     ensures { result.now ≡ page_3 }
 {
-    "strijdleider','\\u30af\\u30e9\\u30d6\\u306e\\u30c7\\u30fc\\u30bf\\u3092\\u5229\\u7528\\u3067\\u304d\\u307e\\u305\
-     b\\u3093\\u3002\\u5e79\\u4e8b\\u306b\\u77e5\\u3089\\u305b\\u3066\\u304f\\u3060\\u3055\\u3044','Le fichier du clu\
-     b est inutilisable\\u202f; \
+    "ider','\\u30af\\u30e9\\u30d6\\u306e\\u30c7\\u30fc\\u30bf\\u3092\\u5229\\u7528\\u3067\\u304d\\u307e\\u305b\\u3093\\\
+     u3002\\u5e79\\u4e8b\\u306b\\u77e5\\u3089\\u305b\\u3066\\u304f\\u3060\\u3055\\u3044','Le fichier du club est in\
+     utilisable\\u202f; \
      pr\\u00e9venez le responsable'],73:['The club is unavailable','Der Club ist gerade nicht verf\\u00fcg\
      bar','De club is even niet beschikbaar','\\u30af\\u30e9\\u30d6\\u306f\\u73fe\\u5728\\u5229\\u7528\\u3067\\u30\
      4d\\u307e\\u305b\\u3093','Le club est momentan\\u00e9ment indisponible'],ending:['{who}: {why} \
@@ -900,11 +901,12 @@ pub fn page_3() -> &'static str
      const isMine=(game)=>game.turn===me.member;const opponent=(game)=>\
      (game.first===me.member?game.second:game.first);const secondsLeft=(game)=>\
      (game.deadline===null?Infinity:game.deadline-me.moment);const minute=()=>\
-     Math.floor(me.moment/MINUTE);const isOver=(game)=>secondsLeft(game)<0;const kindOf=(event)=>\
-     club.events.find((it)=>it.event===event)?.game;const rulesOf=({kind})=>\
-     (kind==='shogi'?shogi:draughts);const toMe=(it)=>it.state==='open'&&it.to===me.member;\
-     const GROUPS=['toClaim','toAnswer','toMove','toWait'];const[CLAIM,ANSWER,MOVE,WAIT]=GROUPS.keys();\
-     const hasOffer=(game)=>game.offer&&game.offer!==me.member;const rank=(game)=>\
+     Math.floor(me.moment/MINUTE);const isOver=(game)=>secondsLeft(game)<0;const eventOf=(event)=>\
+     club.events.find((it)=>it.event===event);const kindOf=(event)=>eventOf(event)?.game;\
+     const rulesOf=({kind})=>(kind==='shogi'?shogi:draughts);const toMe=(it)=>\
+     it.state==='open'&&it.to===me.member;const GROUPS=['toClaim','toAnswer','toMove','toWait'];\
+     const[CLAIM,ANSWER,MOVE,WAIT]=GROUPS.keys();const hasOffer=(game)=>\
+     game.offer&&game.offer!==me.member;const rank=(game)=>\
      (isMine(game)?MOVE:isOver(game)?CLAIM:hasOffer(game)?ANSWER:WAIT);const waitingGames=()=>\
      me.games.filter((it)=>rank(it)<WAIT);const byUrgency=(one,other)=>\
      rank(one)-rank(other)||secondsLeft(one)-secondsLeft(other)||one.game-other.game;\
@@ -930,13 +932,13 @@ pub fn page_3() -> &'static str
      ,...games.map(card))]}function paintGames(){const sorted=me.games.toSorted(byUrgency);\
      const parts=GROUPS.flatMap((name,at)=>group(name,sorted.filter((it)=>rank(it)===at)));\
      const none=make('p',{className:'panel empty'},text('noGames'));\
-     fill('games',...(parts[0]?parts:[none]))}function answers({from,number}\
+     fill('games',...(parts[0]?parts:[none]))}function answers({event,from,number}\
      ){const path=`answers/${from}/${number}`;const answer=(name,where,body,look)=>\
      {return button(text(name),()=>perform(()=>ask(where,body)),`${name} ${where}`,look)};\
      return from===me.member?[answer('withdraw',`challenges/${number}/withdraw`,{}\
-     )]:[answer('take',path,{accept:true},'main'),answer('refuse',path,{accept:false})]}\
-     function paintChallenges(){const begun=(it)=>me.games.find((game)=>\
-     game.game===it.game&&game.ply<2);const shown=me.challenges.filter((it)=>\
+     )]:[...(eventOf(event).open?[answer('take',path,{accept:true}\
+     ,'main')]:[]),answer('refuse',path,{accept:false})]}function paintChallenges(){const begun=(it)=>\
+     me.games.find((game)=>game.game===it.game&&game.ply<2);const shown=me.challenges.filter((it)=>\
      it.state==='open'||begun(it)).sort((it,other)=>toMe(other)-toMe(it));const row=(it)=>\
      make('li',{className:toMe(it)?'mine':''},make('span',{}\
      ,text(toMe(it)?'challengesYou':'challenged',it),make('span',{className:'faint'}\
@@ -954,12 +956,13 @@ pub fn page_3() -> &'static str
      ,...shown.map(row))]:[]),...more,...(declined[0]?[folded]:[]))}\
      function paintClub(){const terms=(it)=>\
      text(it.increment?'terms':'wholeGame',{game:text(it.game),budget:span(it.budget),increment:span(it.\
-     increment)});fill('events',...club.events.map((it)=>make('li',{}\
-     ,link('event',it.event),make('span',{className:'faint'},terms(it)))));\
+     increment)});const row=(it)=>make('li',{},link('event',it.event),make('span',{className:'faint'}\
+     ,terms(it)),...(it.open?[]:[make('span',{className:'tag'},text(68))]));\
+     const open=club.events.filter((it)=>it.open);fill('events',...club.events.map(row));\
      const others=club.members.filter((it)=>it!==me.member);fill('other',...others.map((it)=>\
-     make('option',{},it)));fill('cup',...club.events.map((it)=>make('option',{value:it.event}\
+     make('option',{},it)));fill('cup',...open.map((it)=>make('option',{value:it.event}\
      ,text('eventGame',{event:it.event,game:text(it.game)}))));\
-     byId('challenge').hidden=!others[0]||!club.events[0]}\
+     byId('challenge').hidden=!others[0]||!open[0]}\
      async function lookAtEnded(){if(!byId('ended').open)return;const{games,more}=await ask('me/ended');\
      const faint=(...words)=>make('span',{className:'faint'},words.filter((it)=>it).join(' \\u00b7 '));\
      const rows=games.map((it)=>make('li',{}\
@@ -986,8 +989,7 @@ pub fn page_3() -> &'static str
      await lookAtClub([...me.challenges,...me.refused].map((it)=>it.event));return()=>\
      {fill('title',text('home'));const isNear=me.games.some((it)=>Math.abs(secondsLeft(it))<2*MINUTE);\
      const now=JSON.stringify([{...me,moment:isNear?me.moment:minute()},club,text('code')]);\
-     if(now===paintedHome)return;paintedHome=now;paintGames();paintChallenges();paintClub();\
-     lookAtEnded().catch(()=>{});byId('news').textContent=text('news',"
+     if(now===paintedHome)return;paintedHome=now;paintGames();paintChall"
 }
 
 /// Part 4 of the page, in ASCII.
@@ -995,8 +997,9 @@ pub fn page_3() -> &'static str
 pub fn page_4() -> &'static str
     ensures { result.now ≡ page_4 }
 {
-    "{moves:me.games.filter(isMine).length,challenges:challengesToMe()})}}\
-     async function challenge(terms,tries=3){unanswered||=Math.ceil(Math.random()*CHALLENGES);\
+    "enges();paintClub();lookAtEnded().catch(()=>{});\
+     byId('news').textContent=text('news',{moves:me.games.filter(isMine).length,challenges:challengesToM\
+     e()})}}async function challenge(terms,tries=3){unanswered||=Math.ceil(Math.random()*CHALLENGES);\
      try{await ask(`challenges/${unanswered}`,terms);unanswered=0}\
      catch(error){if(error.number!==58||!tries)throw error;unanswered=0;await challenge(terms,tries-1)}}\
      function paintWelcome(){const opening=(rules)=>miniature(rules,rules.read(rules.opening),0,[]);\
@@ -1355,6 +1358,6 @@ pub fn policy() -> &'static str
     ensures { result.now ≡ policy }
 {
     "default-src 'none'; style-src 'sha256-LBekJrt0n0to7MaKjFLKEUJ5Fgk4COnJ3p36HkTHEzU='; \
-     script-src 'sha256-mxMRBitRh1NJTX2bY4mEc7EDBkzdhKO1hUJEmXos5Ug='; connect-src 'self'; \
+     script-src 'sha256-8UuvuSziflAnBMxQqaadUIHY82sKszpyFsherU/TI4U='; connect-src 'self'; \
      img-src data:; manifest-src data:; base-uri 'none'; form-action 'none'; frame-ancestors 'none'"
 }

@@ -27,9 +27,9 @@ batch_small None false = omega (arith)
 
 status_small : (report : Report) → report_status report ≤ 3
 status_small Ready = omega (arith)
-status_small Sound = omega (arith)
-status_small Upgraded = omega (arith)
-status_small AlreadyUpgraded = omega (arith)
+status_small (Sound version) = omega (arith)
+status_small (Upgraded from) = omega (arith)
+status_small (AlreadyUpgraded version) = omega (arith)
 status_small Copied = omega (arith)
 status_small (Answered o) = outcome_small o
 status_small (Overdue count) = omega (arith)

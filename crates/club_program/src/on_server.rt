@@ -15,10 +15,11 @@ use club_requests::Command;
 use control_socket::{OrderAnswer, print_answered};
 use server::clock;
 
-// The record that an order imports; `None` if the server cannot execute the order.
+// The text of an order, which is a record or a new key; `None` if the server cannot execute the order.
 fn text_of(order: &Order) -> Option<&[u8]> {
     match &order.task {
         Task::Request(Command::Import(given)) => Some(&given.text),
+        Task::Request(Command::NewKey(given)) => Some(given.key.as_bytes()),
         Task::Request(_) => Some(&[]),
         Task::Ask(_) => Some(&[]),
         _ => None,

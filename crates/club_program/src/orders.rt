@@ -69,7 +69,7 @@ fn run_words(rt: &HostRuntime, words: &[String], order: &Order) -> u8
     }
 }
 
-/// Reads the record of an import, then executes the command; returns the exit status.
+/// Reads the record of an import or a new key, then executes the command; returns the exit status.
 pub(crate) fn run_with_record(rt: &HostRuntime, words: &[String], order: Order) -> u8
     ensures { result ≤ 3 }
 {

@@ -1,11 +1,12 @@
-//! Input files: the record of a game, and the lines of a batch.
+//! Input files: the record of a game, the new key of a member, and the lines of a batch.
 
 ghost use Rattle.std.specs.Prelude.{◌≡◌, IfOk, IfSome, take};
 ghost use Rattle.club_program.specs.internal.ByteOrderMark.{without_mark};
 
-use cli::Order;
+use cli::{Order, Task, strip_line_end};
 use club_batches::BATCH_BYTES;
 use club_orders::Report;
+use club_requests::Command;
 use std::fs::File;
 use std::io::{ErrorKind, Read};
 
@@ -68,7 +69,7 @@ pub(crate) fn read_batch(rt: &HostRuntime, path: &str) -> Result<Vec<u8>, Report
     read_path(rt, path, ORDERS_BYTES)
 }
 
-/// The text of the record that an order imports, if it does.
+/// The text that an order reads, if it does: the record of an import, or a new key without one line end at its end.
 ///
 /// # Errors
 ///
@@ -77,7 +78,10 @@ pub(crate) fn read_batch(rt: &HostRuntime, path: &str) -> Result<Vec<u8>, Report
 pub(crate) fn record_in(rt: &HostRuntime, order: &Order) -> Result<Option<Vec<u8>>, Report> {
     match &order.record {
         Some(path) => {
-            let text = read_record(rt, path.as_str())?;
+            let mut text = read_record(rt, path.as_str())?;
+            if let Task::Request(Command::NewKey(_)) = &order.task {
+                strip_line_end(&mut text);
+            }
             Ok(Some(text))
         }
         None => Ok(None),

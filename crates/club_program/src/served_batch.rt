@@ -6,6 +6,7 @@ ghost use Rattle.std.specs.Prelude.{◌≡◌, ◌≢◌, ◌≤◌, false, true
 use crate::printing::print_report;
 use cli::{Batch, Task};
 use clocks::Moment;
+use club_changes::needs_arbiter;
 use club_orders::{DONE, FAULT, REFUSED, Report};
 use club_requests::{Command, Question};
 use control_socket::OrderAnswer;
@@ -117,9 +118,21 @@ fn send_lines(rt: &HostRuntime, given: &PreparedBatch, lines: &str) -> SentBatch
     SentBatch::Answered(count, has_refusal)
 }
 
+// Whether a command of a batch needs a file of schema 3. A file of schema 2 refuses such a batch as a whole, so its
+// commands are not sent one by one.
+fn is_for_arbiter(batch: &Batch) -> bool {
+    batch
+        .requests
+        .iter()
+        .any(|request| needs_arbiter(&request.command))
+}
+
 /// Executes the commands of a batch on the running server and prints their outcomes, each as an order of its own at the
-/// timestamp of the batch. `Answered(0, false)` if no server holds the file.
+/// timestamp of the batch. `Answered(0, false)` if no server holds the file, or if a command is an arbiter's.
 pub(crate) fn send_batch(rt: &HostRuntime, given: &PreparedBatch) -> SentBatch {
+    if is_for_arbiter(&given.batch) {
+        return SentBatch::Answered(0, false);
+    }
     let Ok(lines) = std::str::from_utf8(&given.lines) else {
         return SentBatch::Answered(0, false);
     };

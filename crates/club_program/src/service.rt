@@ -173,7 +173,7 @@ pub(crate) fn run_service(rt: &HostRuntime, service: &ServeOptions) -> u8
         Err(_) => return print_without_room(rt, &Task::Verify, service.explains),
     };
     match run_order_on_file(rt, &order) {
-        Report::Sound => listen(rt, service),
+        Report::Sound(_) => listen(rt, service),
         report => print_service_report(rt, service, &report),
     }
 }

@@ -8,7 +8,7 @@ ghost use Rattle.club_core.specs.Challenges.{challenge_by};
 ghost use Rattle.club_rows.specs.Club.{ClubState, IsClub, tables};
 ghost use Rattle.club_rows.specs.Tables.{challenge_row};
 ghost use Rattle.store_tables.specs.internal.Cells.{challenge_cells};
-ghost use Rattle.store_tables.specs.Over.{HasRows};
+ghost use Rattle.store_tables.specs.internal.Over.{HasRows};
 ghost use Rattle.store_tables.specs.Reading.{Reads};
 
 use crate::fault::LookupFault;

@@ -15,7 +15,7 @@ ghost use Rattle.club_rows.specs.internal.Seen.{IsSeenRow};
 ghost use Rattle.club_rows.specs.Tables.{with_entry};
 ghost use Rattle.store_tables.specs.Cells.{seen_cells};
 ghost use Rattle.store_tables.specs.declared.rows.SeenRow.{SeenRow};
-ghost use Rattle.store_tables.specs.Over.{HasRows};
+ghost use Rattle.store_tables.specs.internal.Over.{HasRows};
 ghost use Rattle.store_tables.specs.Contents.{Content};
 ghost use Rattle.store_tables.specs.Reading.{Reads};
 ghost use Rattle.store_tables.specs.Names.{tree_of};

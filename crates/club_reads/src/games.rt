@@ -7,7 +7,7 @@ ghost use Rattle.sqlite.specs.Held.{state};
 ghost use Rattle.club_core.specs.State.{place, game_under, keyed_game};
 ghost use Rattle.club_rows.specs.Tables.{number};
 ghost use Rattle.store_tables.specs.Cells.{game_cells};
-ghost use Rattle.store_tables.specs.Over.{HasRows};
+ghost use Rattle.store_tables.specs.internal.Over.{HasRows};
 ghost use Rattle.store_tables.specs.Reading.{Reads};
 ghost use Rattle.club_rows.specs.Club.{ClubGame, ClubState, IsClub, tables};
 ghost use Rattle.club_changes.specs.internal.Steps.{game_in};

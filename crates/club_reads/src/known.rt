@@ -4,8 +4,9 @@ ghost use Rattle.std.specs.Prelude.{◌≡◌, ◌≤◌, ℕ, List, length, Opt
 ghost use Rattle.sqlite.specs.State.{HasCleanDisk};
 ghost use Rattle.sqlite.specs.Held.{state};
 ghost use Rattle.club_core.specs.State.{game_under};
-ghost use Rattle.club_rows.specs.Club.{ClubState, IsClub, tables};
-ghost use Rattle.store_tables.specs.Over.{HasRows};
+ghost use Rattle.club_rows.specs.Club.{ClubState, IsClub, StoresClub, tables};
+ghost use Rattle.club_rows.specs.Tables.{version_of};
+ghost use Rattle.store_tables.specs.internal.Over.{HasRows};
 ghost use Rattle.store_tables.specs.Reading.{Reads};
 ghost use Rattle.club_changes.specs.internal.Importing.{IsUnder, IsKnown};
 
@@ -19,6 +20,7 @@ use club_core::KeyedGame;
 use sqlite::{Alter, Connection};
 use std::alloc::Global;
 use store_sql::{GameKey, find};
+use store_tables::Version;
 
 // The stored game with this key, if there is one.
 pub(crate) fn stored_under<S: Alter>(
@@ -49,8 +51,8 @@ fn keyed(under: &Option<StoredGame>) -> Result<Option<KeyedGame>, LookupFault>
     }
 }
 
-/// Returns the state that an import under this key needs: members, events, the game with the key, and the number of
-/// games.
+/// Returns the state that an import under this key needs, of a club of this version: members, events, the game with
+/// the key, and the number of games.
 ///
 /// # Errors
 ///
@@ -58,6 +60,7 @@ fn keyed(under: &Option<StoredGame>) -> Result<Option<KeyedGame>, LookupFault>
 /// - `Memory` if out of memory.
 pub fn read_known<S: Alter>(
     alloc: Global,
+    version: Version,
     conn: &mut Connection<S>,
     key: &str,
 ) -> Result<ImportContext, LookupFault>
@@ -65,13 +68,13 @@ pub fn read_known<S: Alter>(
     ensures members { IfOk result (λ known. length known.members.items ≤ 200) }
     ensures events { IfOk result (λ known. length known.events.items ≤ 50) }
     ensures known { HasCleanDisk (state S.Store conn.new) → IfOk result (λ known. (s : ClubState) → IsClub s →
-        HasRows (tables s) (state S.Store conn.old) → IsKnown s key.now known) }
+        version ≡ version_of s → StoresClub s (state S.Store conn.old) → IsKnown s key.now known) }
 {
     let under = stored_under(alloc, conn, key)?;
     let keyed = keyed(&under)?;
     let games = count_games(conn)?;
-    let members = all_members(alloc, conn)?;
-    let events = all_events(alloc, conn)?;
+    let members = all_members(alloc, version, conn)?;
+    let events = all_events(alloc, version, conn)?;
     Ok(ImportContext {
         members,
         events,

@@ -5,7 +5,7 @@ ghost use Rattle.sqlite.specs.State.{HasCleanDisk};
 ghost use Rattle.sqlite.specs.Held.{state};
 ghost use Rattle.club_rows.specs.Tables.{meta_row};
 ghost use Rattle.store_tables.specs.internal.Cells.{meta_cells};
-ghost use Rattle.store_tables.specs.Over.{HasRows};
+ghost use Rattle.store_tables.specs.internal.Over.{HasRows};
 ghost use Rattle.store_tables.specs.Reading.{Reads};
 ghost use Rattle.club_rows.specs.Club.{ClubState, tables};
 
@@ -19,7 +19,8 @@ use store_sql::list;
 use store_tables::MetaRow;
 
 fn last_in(row: &MetaRow) -> Result<Moment, LookupFault>
-    ensures { IfOk result (λ last. (n : ℕ) → meta_cells row.now ≡ meta_row 2 n → last ≡ n) }
+    ensures { IfOk result (λ last. (schema n : ℕ) → meta_cells row.now ≡ meta_row schema n →
+        last ≡ n) }
 {
     match to_moment(row.last) {
         Some(last) => Ok(last),

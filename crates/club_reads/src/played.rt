@@ -6,7 +6,7 @@ ghost use Rattle.sqlite.specs.Held.{state};
 ghost use Rattle.club_core.specs.Game.{Game};
 ghost use Rattle.club_imports.specs.internal.Importing.{IsPlayedOf, ShowsPlayed};
 ghost use Rattle.club_rows.specs.internal.Replay.{terms_given};
-ghost use Rattle.store_tables.specs.Over.{HasRows};
+ghost use Rattle.store_tables.specs.internal.Over.{HasRows};
 ghost use Rattle.store_tables.specs.Contents.{Content};
 ghost use Rattle.store_tables.specs.Reading.{Reads};
 ghost use Rattle.club_changes.specs.internal.Importing.{IsOfKind, TellsLine};

@@ -34,6 +34,8 @@ answer_text (answer.ChallengeWithdrawn number) = codes "challenge " ++ decimal n
 answer_text (answer.ChallengeRefused number) = codes "challenge " ++ decimal number ++ codes " refused"
 answer_text (answer.ChallengeAccepted number game) =
     codes "challenge " ++ (decimal number ++ (codes " accepted game " ++ decimal game))
+answer_text (answer.KeyGiven number) = codes "key " ++ decimal number
+answer_text answer.EventClosed = codes "closed"
 
 -- the printed form of an outcome: whether the command is accepted, repeated or refused, and its answer or refusal
 abbrev pub outcome_text : Outcome → List ℕ

@@ -36,6 +36,10 @@ most_record_bytes = 65536
 abbrev pub greatest_challenge : ℕ
 greatest_challenge = 9999
 
+-- maximum number of later keys of a member
+abbrev pub most_keys : ℕ
+most_keys = 99
+
 -- latest timestamp, in Unix seconds: the end of the year 9999
 abbrev pub last_moment : ℕ
 last_moment = 253402300799

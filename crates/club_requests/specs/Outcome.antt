@@ -35,6 +35,10 @@ pub data Reply : Type 0 where
   challenge_refused : (number : ℕ) → Reply
   -- the challenge was accepted and started this game
   challenge_accepted : (number game : ℕ) → Reply
+  -- the later key of a member under this number
+  key_given : (number : ℕ) → Reply
+  -- the event is closed to challenges
+  event_closed : Reply
 
 -- accepted with the new state, repeated, or refused
 pub data Outcome (S : Type 0) : Type 0 where

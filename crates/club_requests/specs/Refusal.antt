@@ -11,6 +11,7 @@ use Rattle.club_requests.specs.declared.refusals.Refusal.TheVariants.{GameOver}
 use Rattle.club_requests.specs.declared.refusals.Refusal.TheVariants.{WrongPly, Conflict, NotYourTurn, OutOfTime}
 use Rattle.club_requests.specs.declared.refusals.Refusal.TheVariants.{TimeLeft}
 use Rattle.club_requests.specs.declared.refusals.Refusal.TheVariants.{NoOffer, NameTaken, BadValue, Full, NotDeclarable}
+use Rattle.club_requests.specs.declared.refusals.Refusal.TheVariants.{EventClosed}
 use Rattle.club_requests.specs.declared.refusals.Refusal.TheVariants.{Play, Record}
 
 -- the number of a refusal
@@ -33,6 +34,7 @@ refusal_number NameTaken = 64
 refusal_number BadValue = 65
 refusal_number Full = 66
 refusal_number NotDeclarable = 67
+refusal_number EventClosed = 68
 refusal_number (Play ply refusal) = move_refusal_number refusal
 refusal_number (Record refusal) = record_refusal_number refusal
 
@@ -56,6 +58,7 @@ refusal_name NameTaken = codes "NameTaken"
 refusal_name BadValue = codes "BadValue"
 refusal_name Full = codes "Full"
 refusal_name NotDeclarable = codes "NotDeclarable"
+refusal_name EventClosed = codes "EventClosed"
 refusal_name (Play ply refusal) = move_refusal_name refusal
 refusal_name (Record refusal) = record_refusal_name refusal
 
@@ -86,6 +89,7 @@ refusal_tail NameTaken = []
 refusal_tail BadValue = []
 refusal_tail Full = []
 refusal_tail NotDeclarable = []
+refusal_tail EventClosed = []
 
 -- the number, the name and the parameters, separated by spaces
 abbrev pub refusal_text : Refusal → List ℕ

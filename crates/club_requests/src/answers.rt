@@ -38,6 +38,10 @@ pub enum Answer {
     ChallengeRefused { number: u32 },
     /// The challenge was accepted and started this game; the number is the challenger's.
     ChallengeAccepted { number: u32, game: u32 },
+    /// The member was given another key, the later key with this number.
+    KeyGiven { number: u64 },
+    /// The event was closed to challenges.
+    EventClosed,
 }
 
 /// The outcome of a command. A repeat returns the answer of the command that it repeats. Only an accepted command
@@ -57,6 +61,8 @@ pub enum Outcome {
 /// - an end with its result: `end Agreed 1-1`
 /// - a sweep with the number of games ended: `sweep 3`
 /// - a challenge with its state: `challenge 3 open`, `challenge 3 accepted game 7`
+/// - a later key of a member, by its number: `key 1`
+/// - a closed event: `closed`
 impl fmt::Display for Answer {
     ghost use Rattle.std.specs.Prelude.{Some};
     ghost use Rattle.club_requests.specs.AnswerText.{answer_text};
@@ -78,6 +84,8 @@ impl fmt::Display for Answer {
             Answer::ChallengeAccepted { number, game } => {
                 write!(f, "challenge {number} accepted game {game}")
             }
+            Answer::KeyGiven { number } => write!(f, "key {number}"),
+            Answer::EventClosed => write!(f, "closed"),
         }
     }
 }

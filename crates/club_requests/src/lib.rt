@@ -21,7 +21,7 @@ pub use outside_end::{OutsideEnd, is_outside};
 pub use questions::{Analysis, AnalysisStart, GameFilter, Listing, Question};
 pub use refusals::Refusal;
 pub use requests::{
-    AddEvent, AddMember, AnswerChallenge, Caller, Command, GameCommand, Import, OnGame,
-    OpenChallenge, Request, Seat, Who, Withdraw,
+    AddEvent, AddMember, AnswerChallenge, Caller, CloseEvent, Command, GameCommand, Import, NewKey,
+    OnGame, OpenChallenge, Request, Seat, Who, Withdraw,
 };
 pub use values::{is_challenge_number, is_member_key, is_name};

@@ -9,7 +9,7 @@ use std::fmt;
 /// The reason why a command is refused. If several apply, the first in the order below is given.
 ///
 /// The check for a repeat of an accepted command comes after `NotInThisGame` and before `GameOver`. Refusals of a
-/// move's text, of a move or of a record come last.
+/// move's text, of a move or of a record come last. A new key for an unknown member is `BadValue` before that check.
 #[derive(Clone, Copy, Debug, PartialEq, Eq)]
 pub enum Refusal {
     /// No member has the key.
@@ -31,8 +31,8 @@ pub enum Refusal {
     /// The ply is 0 or greater than the next one, or a draw offer, acceptance or declaration does not name the next
     /// ply.
     WrongPly,
-    /// The command contradicts what is stored: another move at this ply, another game or challenge under this key or
-    /// number, a closed challenge, or a draw offer of the opponent.
+    /// The command contradicts what is stored: another move at this ply, another game, challenge or key of a member
+    /// under this key or number, a closed challenge, or a draw offer of the opponent.
     Conflict,
     /// It is the opponent's turn; for a claim of time it is the caller's own.
     NotYourTurn,
@@ -42,14 +42,16 @@ pub enum Refusal {
     TimeLeft,
     /// The opponent has not offered a draw at this ply.
     NoOffer,
-    /// The name of a new member or event, or the key of a new member, is in use.
+    /// The name of a new member or event is in use, or a member has or had the key.
     NameTaken,
     /// A value is outside its limits, a player is unknown or named twice, or the text has no such record.
     BadValue,
-    /// The club has reached its limit of members, events or games.
+    /// The club has reached its limit of members, events or games, or the member that of keys.
     Full,
     /// The event has no declarations, or the position does not allow the side to move to declare a win.
     NotDeclarable,
+    /// The event is closed to challenges.
+    EventClosed,
     /// The rules of the game refuse the move's text or the move at this ply.
     Play { ply: u32, refusal: MoveRefusal },
     /// The record of an import is refused.
@@ -57,7 +59,7 @@ pub enum Refusal {
 }
 
 impl Refusal {
-    /// The refusal's number: 50 to 67, or the number of the move's or the record's refusal.
+    /// The refusal's number: 50 to 68, or the number of the move's or the record's refusal.
     pub fn number(self) -> u8
         ensures { result ≡ refusal_number self }
     {
@@ -80,6 +82,7 @@ impl Refusal {
             Refusal::BadValue => 65,
             Refusal::Full => 66,
             Refusal::NotDeclarable => 67,
+            Refusal::EventClosed => 68,
             Refusal::Play { ply: _, refusal } => refusal.number(),
             Refusal::Record(refusal) => refusal.number(),
         }
@@ -108,6 +111,7 @@ impl Refusal {
             Refusal::BadValue => "BadValue",
             Refusal::Full => "Full",
             Refusal::NotDeclarable => "NotDeclarable",
+            Refusal::EventClosed => "EventClosed",
             Refusal::Play { ply: _, refusal } => refusal.name(),
             Refusal::Record(refusal) => refusal.name(),
         }

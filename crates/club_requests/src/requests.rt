@@ -106,6 +106,20 @@ pub struct AnswerChallenge {
     pub accept: bool,
 }
 
+/// Gives a member another key, under a number that counts from 1. From then on the earlier keys are nobody's.
+#[derive(Debug, Drop)]
+pub struct NewKey {
+    pub name: String,
+    pub number: u64,
+    pub key: String,
+}
+
+/// Closes an event to challenges. Its games go on, and games can still be added by the officer.
+#[derive(Debug, Drop)]
+pub struct CloseEvent {
+    pub event: String,
+}
+
 /// A command to the club.
 #[derive(Debug, Drop)]
 pub enum Command {
@@ -119,6 +133,8 @@ pub enum Command {
     Challenge(OpenChallenge),
     Withdraw(Withdraw),
     Answer(AnswerChallenge),
+    NewKey(NewKey),
+    CloseEvent(CloseEvent),
 }
 
 // The subcommand that imports a record of this format.
@@ -155,6 +171,8 @@ impl Command {
             Command::Import(given) => Some(import_name(given.format)),
             Command::OnGame(given) => given.command.name(),
             Command::Sweep => Some("sweep"),
+            Command::NewKey(_) => Some("key"),
+            Command::CloseEvent(_) => Some("close"),
             Command::Challenge(_) | Command::Withdraw(_) | Command::Answer(_) => None,
         }
     }

@@ -30,6 +30,9 @@ pub const MOST_RECORD_BYTES: usize = 65_536;
 /// The greatest number of a challenge.
 pub const GREATEST_CHALLENGE: u64 = 9_999;
 
+/// The maximum number of keys that a member is given after the first one.
+pub const MOST_KEYS: usize = 99;
+
 /// The maximum budget, in seconds: 365 days.
 pub const LONGEST_BUDGET: u64 = 31_536_000;
 

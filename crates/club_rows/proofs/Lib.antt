@@ -16,6 +16,7 @@ pub mod PlainTexts
 pub mod DraughtsTexts
 pub mod ShogiTexts
 pub mod TextLemmas
+pub mod VersionLemmas
 pub mod StandLemmas
 pub mod WholeLemmas
 pub mod TallyLemmas

@@ -2,7 +2,7 @@
 pub use Rattle.club_rows.proofs.ChallengeLemmas.{challenge-had, challenge-not-shown, challenge-put, challenge-shown}
 pub use Rattle.club_rows.proofs.ChallengeLemmas.{challenge-told, challenges-alike, challenges-unaltered}
 pub use Rattle.club_rows.proofs.ChallengeLemmas.{no-challenge-told, seated-added}
-pub use Rattle.club_rows.proofs.ClubsAlike.{declares-alike}
+pub use Rattle.club_rows.proofs.ClubsAlike.{closings-begin, declares-alike, keys-begin}
 pub use Rattle.club_rows.proofs.GatheredLemmas.{gathered-added, gathered-had, gathered-has}
 pub use Rattle.club_rows.proofs.KindLemmas.{Kind, draughts_laws, event_in, in_draughts, in_shogi, kinds-alike, plies_in}
 pub use Rattle.club_rows.proofs.KindLemmas.{shogi_laws}
@@ -23,7 +23,9 @@ pub use Rattle.club_rows.proofs.SeenLemmas.{seen-start, seen-stay, seen-table-ad
 pub use Rattle.club_rows.proofs.SeenTexts.{Texts, first-more, first-new, one-first, one-row, row-had, row-has}
 pub use Rattle.club_rows.proofs.SeenTexts.{times-new, times-other}
 pub use Rattle.club_rows.proofs.TallyLemmas.{positions-append}
-pub use Rattle.club_rows.proofs.TextLemmas.{events-typed, games-typed, members-typed, moves-typed, rules-typed}
+pub use Rattle.club_rows.proofs.TextLemmas.{closings-typed, events-typed, games-typed, keys-typed, members-typed}
+pub use Rattle.club_rows.proofs.TextLemmas.{moves-typed, rules-typed}
+pub use Rattle.club_rows.proofs.VersionLemmas.{stores-rows, version-served, version-with, version-without}
 pub use Rattle.club_rows.proofs.ColumnLemmas.{IsToldBy, columns-are, columns-read, columns-told, none-read}
 pub use Rattle.club_rows.proofs.ColumnLemmas.{same-pos, spend-since}
 pub use Rattle.club_rows.proofs.StandLemmas.{is_some-none, since-rises}

@@ -2,6 +2,7 @@
 use Rattle.std.proofs.Common.{◌≡◌, ℕ, suc, List, [], ◌∷◌, map, Option, Some, None, refl, inl, inr, arith}
 use Rattle.std.specs.Prelude.{IfSome, IsTrue}
 use Rattle.std.specs.List.{AllByRecursion}
+use Rattle.std.specs.Option.{option_map, option_to_list}
 use Rattle.sqlite_value.specs.declared.value.Value.TheVariants.{Text}
 use Rattle.sqlite.specs.Order.{Row}
 use Rattle.sqlite.specs.Values.{or_null}
@@ -17,18 +18,19 @@ use Rattle.club_core.specs.declared.rows.GameEnd.{GameEnd}
 use Rattle.club_core.specs.declared.rows.GameEnd.TheVariants.{Rule, Outside}
 use Rattle.club_requests.specs.declared.outside_end.OutsideEnd.{OutsideEnd}
 use Rattle.club_requests.specs.declared.outside_end.OutsideEnd.TheVariants.{Resigned}
-use Rattle.club_requests.specs.Limits.{is_name}
+use Rattle.club_requests.specs.Limits.{is_member_key, is_name}
 use Rattle.club_core.specs.Members.{Member}
 use Rattle.club_core.specs.Events.{Event, Terms}
 use Rattle.club_core.specs.Game.{Entry, Game, last_position, end_of, result_of}
 use Rattle.club_core.specs.LegalState.{Each, IsLegalMember, IsLegalEvent, IsLegalIn}
 use Rattle.club_core.specs.State.{draughts, shogi, place, terms_at}
 use Rattle.club_core.proofs.Proved.{last-played}
-use Rattle.store_tables.specs.Cells.{IsText, OrNull, IsMember, IsEvent, IsEventRule, IsMove, IsGame}
+use Rattle.store_tables.specs.Cells.{IsText, OrNull, IsMember, IsEvent, IsEventRule, IsMove, IsGame, IsKey, IsClosing}
 use Rattle.club_rows.specs.Club.{ClubGame, ClubState, IsClub, both_games}
 use Rattle.club_requests.specs.OutsideEnd.{outside_text}
 use Rattle.club_rows.specs.Tables.{at_start, rule_row, member_row, event_row, game_row, entry_rows, with_entry}
 use Rattle.club_rows.specs.Tables.{end_name_text, numbered_from, gathered_from, row_of_game, rows_of_moves, tables_of}
+use Rattle.club_rows.specs.Tables.{closing_row, key_row, rows_of_closing, rows_of_keys}
 use Rattle.club_rows.proofs.PlainTexts.{is-text, name-plain, key-plain, written, all-append, ArePlain}
 use Rattle.club_rows.proofs.DraughtsTexts.{draughts-plain}
 use Rattle.club_rows.proofs.ShogiTexts.{shogi-plain}
@@ -84,6 +86,17 @@ event-typed id e legal = grind (arith, is-text e.name (name-plain e.name legal.n
 rule-typed : (id : ℕ) (e : Event) → IsLegalEvent e → IsEventRule (rule_row id e)
 rule-typed id e legal = grind arith
 
+key-rows-typed : (id n : ℕ) (ks : List (List ℕ)) → Each (λ k. IsTrue (is_member_key k)) ks
+    → AllByRecursion IsKey (numbered_from (key_row id) n ks)
+key-rows-typed id n ks each =
+    numbered-all (key_row id) (λ k. IsTrue (is_member_key k)) IsKey
+    (λ at k named. grind (arith, is-text k (key-plain k named))) n ks each
+
+closing-typed : (id : ℕ) (closed : Option ℕ)
+    → AllByRecursion IsClosing (option_to_list (option_map (closing_row id) closed))
+closing-typed id None = tt
+closing-typed id (Some moment) = (grind arith, tt)
+
 module _ {P M E T : Type 0} (laws : GameRules P M E T) (plain : ArePlain laws) where
   game-typed : (terms : Terms) (id : ℕ) (g : Game M) → IfSome g.key (λ k. IsTrue (is_name k))
       → IsGame (game_row laws terms id g)
@@ -113,6 +126,16 @@ module _ (s : ClubState) (club : IsClub s) where
 
   pub rules-typed : AllByRecursion IsEventRule (tables_of both_games s 16)
   rules-typed = numbered-all rule_row IsLegalEvent IsEventRule rule-typed 1 s.events club.events
+
+  pub keys-typed : AllByRecursion IsKey (tables_of both_games s 17)
+  keys-typed =
+      gathered-all rows_of_keys IsLegalMember IsKey (λ id m legal. key-rows-typed id 1 m.later legal.later) 1 s.members
+      club.members
+
+  pub closings-typed : AllByRecursion IsClosing (tables_of both_games s 22)
+  closings-typed =
+      gathered-all rows_of_closing IsLegalEvent IsClosing (λ id e legal. closing-typed id e.closed) 1 s.events
+      club.events
 
   any-game : (id : ℕ) (any : ClubGame) → IsLegalIn both_games s any → IsGame (row_of_game both_games s.events id any)
   any-game id (draughts g) legal = game-typed both_games.draughts draughts-plain (terms_at (place s.events g.event)) id

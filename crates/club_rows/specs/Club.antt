@@ -14,8 +14,10 @@ use Rattle.club_games.specs.ShogiRecords.{shogi_records}
 use Rattle.club_core.specs.ClubRules.{ClubRules, both}
 use Rattle.club_core.specs.LegalState.{IsLegalState}
 use Rattle.club_core.specs.State.{AnyGame, State}
+use Rattle.sqlite.specs.State as connection
 use Rattle.store_tables.specs.Contents.{Content}
-use Rattle.club_rows.specs.Tables.{tables_of}
+use Rattle.store_tables.specs.Over.{HasRowsIn}
+use Rattle.club_rows.specs.Tables.{tables_of, version_of}
 
 -- the rules and record formats of the club's games
 abbrev pub both_games : ClubRules Position DMove DEnd draughts_track.Tail ShogiPosition SMove SEnd shogi_track.Tail
@@ -36,3 +38,8 @@ IsClub s = IsLegalState both_games s
 -- the content of its tables
 abbrev pub tables : ClubState → Content
 tables s = tables_of both_games s
+
+-- The connection has exactly the tables of this club in its schema version, alone or among foreign tables, also after
+-- a crash.
+abbrev pub StoresClub : ClubState → connection.State → Type 0
+StoresClub s = HasRowsIn (version_of s) (tables s)

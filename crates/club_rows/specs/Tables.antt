@@ -1,6 +1,7 @@
 -- The tables of a club: the rows of each state.
 use Rattle.std.specs.Prelude.{ℕ, suc, pos, ◌+◌, ◌==◌, Bool, true, false, List, [], ◌∷◌, ◌++◌, length, map, Option, Some}
 use Rattle.std.specs.Prelude.{None, if◌then◌else◌}
+use Rattle.std.specs.Option.{option_map, option_to_list}
 use Rattle.sqlite_value.specs.declared.value.Value.{Value}
 use Rattle.sqlite_value.specs.declared.value.Value.TheVariants.{Int, Text}
 use Rattle.sqlite.specs.Values.{or_null}
@@ -26,8 +27,11 @@ use Rattle.club_core.specs.Game.{Entry, Game, clocks_of, moves_of, left_of, last
 use Rattle.club_core.specs.State.{AnyGame, draughts, shogi, State, place, terms_at}
 use Rattle.store_tables.specs.Contents.{Content}
 use Rattle.store_tables.specs.Names.{tree_of}
+use Rattle.store_tables.specs.Tables.{schema_number}
 use Rattle.store_tables.specs.declared.names.Table.TheVariants.{Meta, Members, Events, Challenges, Moves}
-use Rattle.store_tables.specs.declared.names.Table.TheVariants.{Games, Seen, Scores, EventRules}
+use Rattle.store_tables.specs.declared.names.Table.TheVariants.{Games, Seen, Scores, EventRules, Keys, Closings}
+use Rattle.store_tables.specs.declared.names.Version.{Version}
+use Rattle.store_tables.specs.declared.names.Version.TheVariants.{V2, V3}
 use Rattle.club_rows.specs.Seen.{seen_rows}
 use Rattle.club_rows.specs.Scores.{scores_in}
 
@@ -136,6 +140,14 @@ declares_number false = 0
 abbrev pub rule_row : ℕ → Event → Row
 rule_row id e = number id ∷ number (declares_number e.terms.declares) ∷ []
 
+-- the row of `keys` of a key that the member with this id was given under this number
+abbrev pub key_row : (member number : ℕ) → (key : List ℕ) → Row
+key_row member n key = number member ∷ number n ∷ Text key ∷ []
+
+-- the row of `closings` of the event with this id, which was closed at this timestamp
+abbrev pub closing_row : (event moment : ℕ) → Row
+closing_row event moment = number event ∷ number moment ∷ []
+
 -- the only row of `meta`: schema number and timestamp of the last accepted command
 abbrev pub meta_row : ℕ → ℕ → Row
 meta_row schema last = number 1 ∷ number schema ∷ number last ∷ []
@@ -169,6 +181,18 @@ abbrev pub gathered_from : {A : Type 0} → (ℕ → A → List Row) → ℕ →
 gathered_from rows id [] = []
 gathered_from rows id (x ∷ xs) = rows id x ++ gathered_from rows (suc id) xs
 
+-- the rows of `keys` of the member with this id; later keys are numbered from 1
+abbrev pub rows_of_keys : ℕ → Member → List Row
+rows_of_keys id m = numbered_from (key_row id) 1 m.later
+
+-- the row of `closings` of the event with this id, if it is closed
+abbrev pub rows_of_closing : ℕ → Event → List Row
+rows_of_closing id e = option_to_list (option_map (closing_row id) e.closed)
+
+-- the schema version of a club: schema 3 if it has an arbiter, otherwise schema 2
+abbrev pub version_of : {DM SM : Type 0} → State DM SM → Version
+version_of s = if s.has_arbiter then V3 else V2
+
 module _ {DP DM DE DT SP SM SE ST : Type 0} (rules : ClubRules DP DM DE DT SP SM SE ST) where
   -- the rows of `seen` of the game with this id
   abbrev pub rows_of_seen : ℕ → AnyGame DM SM → List Row
@@ -189,7 +213,7 @@ module _ {DP DM DE DT SP SM SE ST : Type 0} (rules : ClubRules DP DM DE DT SP SM
   -- The rows of each table, by the number of its tree. Ids count from 1.
   abbrev pub tables_of : State DM SM → Content
   tables_of s t =
-      if t == tree_of Meta then meta_row 2 s.last ∷ []
+      if t == tree_of Meta then meta_row (schema_number (version_of s)) s.last ∷ []
       else (if t == tree_of Members then numbered_from member_row 1 s.members
       else (if t == tree_of Events then numbered_from event_row 1 s.events
       else (if t == tree_of Challenges then map challenge_row s.challenges
@@ -198,4 +222,6 @@ module _ {DP DM DE DT SP SM SE ST : Type 0} (rules : ClubRules DP DM DE DT SP SM
       else (if t == tree_of Seen then gathered_from rows_of_seen 1 s.games
       else (if t == tree_of Scores then scores_in rules s.games
       else (if t == tree_of EventRules then numbered_from rule_row 1 s.events
-      else []))))))))
+      else (if t == tree_of Keys then gathered_from rows_of_keys 1 s.members
+      else (if t == tree_of Closings then gathered_from rows_of_closing 1 s.events
+      else []))))))))))

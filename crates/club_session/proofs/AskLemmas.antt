@@ -19,7 +19,7 @@ use Rattle.http_desk.specs.Served.{IsOfCall}
 use Rattle.club_session.specs.internal.Faults.{fault_of_question}
 use Rattle.club_session.specs.Served.{DeskState}
 use Rattle.club_session.specs.internal.Served.{written}
-use Rattle.club_session.specs.ServedStates.{IsServed, IsLeft, served_stays}
+use Rattle.club_session.specs.ServedStates.{IsOpenIn, IsLeft, served_stays}
 use Rattle.club_session.proofs.ServeLemmas.{read_left, read_stands}
 
 -- what was written where nothing was before
@@ -38,25 +38,28 @@ asking_shown s moment question refusal before now shown nothing same has =
     subst (IsShown s moment question) (sym same) (written_shown s moment question refusal before now nothing has)
 
 -- a writer that fails is told as memory that was refused, and the club goes on
-pub asking_left : (old_shut new_shut : Bool) (old new : State) (s : DeskState) (fault : AskFault) (answer : ClubFault)
-    → answer ≡ fault_of_question fault → (fault ≡ asking.Output → new_shut ≡ false)
+pub asking_left : (was_arbiter is_arbiter old_shut new_shut : Bool) (old new : State) (s : DeskState) (fault : AskFault)
+    (answer : ClubFault) → answer ≡ fault_of_question fault → is_arbiter ≡ was_arbiter
+    → (fault ≡ asking.Output → new_shut ≡ false)
     → (fault ≡ asking.Output) ⊎ (new_shut ≡ true)
     → (fault ≡ asking.Output) ⊎ ((fault ≡ asking.Club club.Store) ⊎ (fault ≡ asking.Club club.Memory))
     → Reads (stays_open {A = Option Refusal} (Err fault)) old new
-    → HasCleanDisk new → IsServed old_shut old s → IsOfCall answer × IsLeft new_shut new s s
-asking_left old_shut new_shut old new s asking.Output answer is output ends named reads clean served = (
-  inr is,
-  served_stays new_shut new s s
-      (read_stands old_shut new_shut old new s (output refl) (reads.kept refl clean) served),
-)
-asking_left old_shut new_shut old new s (asking.Club fault) answer is output ends named reads clean served = (
-  elim named [
-    | inl other ↦ absurd (let h = other in cc)
-    | inr (inl store) ↦ inl (is ∙ ap fault_of_question store)
-    | inr (inr memory) ↦ inr (is ∙ ap fault_of_question memory)
-  ],
-  elim ends [
-    | inl other ↦ absurd (let h = other in cc)
-    | inr shut ↦ read_left false old_shut new_shut old new s shut reads clean served
-  ],
-)
+    → HasCleanDisk new → IsOpenIn was_arbiter old_shut old s → IsOfCall answer × IsLeft is_arbiter new_shut new s s
+asking_left was_arbiter is_arbiter old_shut new_shut old new s asking.Output answer is same output ends named reads
+    clean open_in = (
+      inr is,
+      served_stays is_arbiter new_shut new s s
+          (read_stands was_arbiter is_arbiter old_shut new_shut old new s same (output refl) (reads.kept refl clean) open_in),
+    )
+asking_left was_arbiter is_arbiter old_shut new_shut old new s (asking.Club fault) answer is same output ends named
+    reads clean open_in = (
+      elim named [
+        | inl other ↦ absurd (let h = other in cc)
+        | inr (inl store) ↦ inl (is ∙ ap fault_of_question store)
+        | inr (inr memory) ↦ inr (is ∙ ap fault_of_question memory)
+      ],
+      elim ends [
+        | inl other ↦ absurd (let h = other in cc)
+        | inr shut ↦ read_left false was_arbiter is_arbiter old_shut new_shut old new s shut reads clean open_in
+      ],
+    )

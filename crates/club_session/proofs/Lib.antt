@@ -1,4 +1,5 @@
 pub mod AcknowledgedLemmas
+pub mod ArbiterLemmas
 pub mod AskLemmas
 pub mod CopyLemmas
 pub mod FoundLemmas

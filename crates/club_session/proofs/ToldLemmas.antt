@@ -3,13 +3,18 @@ use Rattle.std.proofs.Common.{◌≡◌, ◌⊎◌, ◌∙◌, Bool, true, false
 use Rattle.std.specs.Prelude.{IfSome}
 use Rattle.sqlite.specs.Effect.{Database}
 use Rattle.sqlite.specs.State.{State}
+use Rattle.sqlite.specs.Tree.{Trees}
 use Rattle.store_tables.specs.Contents.{Content}
 use Rattle.store_tables.specs.declared.names.Version.{Version}
-use Rattle.store_tables.specs.declared.names.Version.TheVariants.{Current}
 use Rattle.club_rows.specs.Club.{ClubState, tables}
+use Rattle.club_rows.specs.FirstSchema.{IsClubOf, tables_at}
+use Rattle.club_check.specs.Refused.{HoldClub}
 use Rattle.club_check.specs.Versions.{HasClub, HoldsRows, LeavesRows}
+use Rattle.club_check.proofs.Proved.{club_of_version}
 use Rattle.club_check.specs.declared.fault.OpenFault.{OpenFault}
 use Rattle.club_check.specs.declared.fault.OpenFault.TheVariants as opening
+use Rattle.store.specs.Clubs.{version_with}
+use Rattle.store.proofs.Proved.{tables_served, version_is, with_served}
 use Rattle.http_desk.specs.declared.faults.ClubFault.{ClubFault}
 use Rattle.club_session.specs.Faults.{fault_of_opening}
 use Rattle.club_session.specs.ToldFault.{IfOpened, IsOfClub}
@@ -76,10 +81,29 @@ none_failed has_failed told is none = none_behind has_failed (sym is ∙ none)
 rows_left : (version : Version) (content : Content) (db : Database) → HoldsRows version content db
     → LeavesRows version content db.trees
 rows_left version content db holds =
-    record { schema = db.schema; stands = holds.schema; sound = holds.sound; tables = holds.tables }
+    record {
+      schema = db.schema;
+      stands = holds.schema;
+      told = holds.told;
+      sound = holds.sound;
+      tables = holds.tables;
+    }
 
-pub stood : (s : ClubState) (old new : State) → HasClub Current new.now s → new.now ≡ old.now → old.now ≡ old.committed
-    → LeavesRows Current (tables s) old.committed.trees
-stood s old new has same clean =
-    let P : Database → Type 0 = λ db. LeavesRows Current (tables s) db.trees in
-    subst P (same ∙ clean) (rows_left Current (tables s) new.now has)
+pub stood : (version : Version) (s : ClubState) (old new : State) → HasClub version new.now s → new.now ≡ old.now
+    → old.now ≡ old.committed → LeavesRows version (tables_at version s) old.committed.trees
+stood version s old new has same clean =
+    let P : Database → Type 0 = λ db. LeavesRows version (tables_at version s) db.trees in
+    subst P (same ∙ clean) (rows_left version (tables_at version s) new.now has)
+
+-- the tables of a club, in the version that it was opened in, are those of a legal state
+pub held_club : (arbiter : Bool) (s : ClubState) (trees : Trees) → IsClubOf (version_with arbiter) s
+    → LeavesRows (version_with arbiter) (tables_at (version_with arbiter) s) trees → HoldClub trees
+held_club arbiter s trees own leaves =
+    let version = version_with arbiter in
+    record {
+      state = s;
+      legal = club_of_version version s own;
+      leaves = subst (λ v. LeavesRows v (tables s) trees) (sym (version_is version (with_served arbiter) s own))
+          (subst (λ (content : Content). LeavesRows version content trees) (tables_served version (with_served arbiter) s)
+          leaves);
+    }

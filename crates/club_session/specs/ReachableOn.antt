@@ -3,6 +3,7 @@ use Rattle.std.specs.Prelude.{List, ◌++◌}
 use Rattle.sqlite_wal.specs.Recovery.{Image}
 use Rattle.sqlite.specs.Tree.{Trees}
 use Rattle.store_tables.specs.Over.{Neighbours}
+use Rattle.store_tables.specs.Tables.{IsServed}
 use Rattle.store_tables.specs.declared.names.Version.{Version}
 use Rattle.store.specs.Histories.{HistoryStep, IsReachableIn}
 use Rattle.store_files.specs.Finds.{IsFoundIn}
@@ -20,7 +21,8 @@ abbrev pub AreReachableOn : (from : Version) → List Version → Neighbours →
 AreReachableOn from versions them sessions files =
     (found : Trees) → IsFoundIn files found → ∥ IsReachedBy from versions them sessions found ∥₁
 
--- the same, if none of these commands was cut off
+-- the same, if none of these commands was cut off, in a schema that can be served
 abbrev pub AreReachableWhole : (from : Version) → List Version → Neighbours → List HistoryStep → Image → Type 0
 AreReachableWhole from versions them sessions files = (found : Trees) → IsFoundIn files found
-    → ∥ ((reached : IsReachedBy from versions them sessions found) × AreWhole reached.turns) ∥₁
+    → ∥ ((reached : IsReachedBy from versions them sessions found) × AreWhole reached.turns
+    × IsServed reached.led.version) ∥₁

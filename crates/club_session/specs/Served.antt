@@ -1,7 +1,8 @@
 -- A club of the store as the HTTP application sees it.
+use Rattle.std.specs.Prelude.{if◌then◌else◌}
 use Rattle.store_tables.specs.Over.{Neighbours}
 use Rattle.club_core.specs.Answer.{answered}
-use Rattle.club_core.specs.State.{Request}
+use Rattle.club_core.specs.State.{Request, takes}
 use Rattle.club_rows.specs.Club.{ClubState}
 use Rattle.club_answers.specs.AnswerTexts.{IsShown}
 use Rattle.club_reads.specs.Keys.{member_by_key}
@@ -17,9 +18,9 @@ pub record DeskState : Type 0 where
 abbrev pub beside_them : Neighbours → ClubState → DeskState
 beside_them them s = record { them = them; state = s }
 
--- a request leaves foreign tables as they are
+-- The state after a request: foreign tables stay as they are. A command that the club cannot record changes nothing.
 abbrev pub next_of : DeskState → Request → DeskState
-next_of s request = beside_them s.them (club_next s.state request)
+next_of s request = if takes s.state request.command then beside_them s.them (club_next s.state request) else s
 
 -- the club of the store as the HTTP application queries and changes it
 abbrev pub served : Club DeskState

@@ -1,5 +1,9 @@
 -- The fault that a serving session reports.
-use Rattle.std.specs.Prelude.{◌≡◌, ◌⊎◌, ⊤, Option, Some, None}
+use Rattle.std.specs.Prelude.{◌≡◌, ◌⊎◌, ⊤, true, Option, Some, None}
+use Rattle.sqlite.specs.Schema.{Schema}
+use Rattle.store_tables.specs.Tables.{IsServed}
+use Rattle.store_tables.specs.declared.names.Version.{Version}
+use Rattle.schema_match.specs.Shapes.{is_of_club}
 use Rattle.http_desk.specs.declared.faults.ClubFault.{ClubFault}
 use Rattle.http_desk.specs.declared.faults.ClubFault.TheVariants.{Reopen}
 use Rattle.http_desk.specs.Served.{IsOfCall}

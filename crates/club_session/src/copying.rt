@@ -7,10 +7,12 @@ ghost use Rattle.sqlite_trees.specs.View.{IsClean};
 ghost use Rattle.sqlite.specs.State.{HasCleanDisk};
 ghost use Rattle.sqlite.specs.Held.{state};
 ghost use Rattle.sqlite.specs.Files.{file_state};
-ghost use Rattle.store_tables.specs.Over.{HasRows};
+ghost use Rattle.store_tables.specs.Over.{HasRowsIn};
+ghost use Rattle.store_tables.specs.Tables.{IsServed};
 ghost use Rattle.store_tables.specs.Club.{IsExactly};
 ghost use Rattle.store_tables.specs.Reading.{OnlyReads};
 ghost use Rattle.club_rows.specs.Club.{ClubState, tables};
+ghost use Rattle.club_rows.specs.Tables.{version_of};
 ghost use Rattle.store_files.specs.Finds.{HaveNoTables};
 ghost use Rattle.club_check.specs.declared.fault.OpenFault.TheVariants.{Foreign};
 ghost use Rattle.club_orders.specs.declared.report.Report.TheVariants.{Copied, BackupFailed, Unopened};
@@ -26,6 +28,7 @@ use sqlite::{Alter, Connection, FileFrom, FileStore, Leftover};
 use sqlite_disk::{Disk, Start, Wary};
 use store::{holds_exactly, opened_empty_holds};
 use store_files::close;
+use store_tables::Version;
 
 /// The result of a backup, and the copy, if its files were opened.
 pub struct BackupResult<D: Disk> {
@@ -71,10 +74,12 @@ fn finish<T: Start>(
     path: &str,
 ) -> BackupResult<FileFrom<T>>
     ensures possible_faults { (result.report ≡ Copied) ⊎ (result.report ≡ BackupFailed) }
-    ensures whole { (content : _) → (HasCleanDisk (file_state copy) → IsExactly content (file_state copy)) →
-        result.report ≡ Copied → HasCopyOf content result.copy }
-    ensures after_crash { (content : _) → (HasCleanDisk (file_state copy) → IsExactly content (file_state copy)) →
-        HasCopyOrNone content result.copy }
+    ensures whole { (version content : _) →
+        (HasCleanDisk (file_state copy) → IsExactly version content (file_state copy)) →
+        result.report ≡ Copied → HasCopyOf version content result.copy }
+    ensures after_crash { (version content : _) →
+        (HasCleanDisk (file_state copy) → IsExactly version content (file_state copy)) →
+        HasCopyOrNone version content result.copy }
 {
     let files = match copy.close_files() {
         Ok(files) => files,
@@ -97,26 +102,29 @@ fn finish<T: Start>(
     }
 }
 
-// Copies an open club, which was verified, into a new file at this path.
+// Copies an open club of this schema, which was verified, into a new file at this path.
 fn copy_into<S: Alter, T: Start>(
     rt: &HostRuntime,
+    version: Version,
     club: &mut Connection<S>,
     path: &str,
     start: T,
 ) -> BackupResult<FileFrom<T>>
     ensures reads { OnlyReads (state S.Store club.old) (state S.Store club.new) }
     ensures possible_faults { IsOfCopy result.report }
-    ensures copied { HasCleanDisk (state S.Store club.new) → HaveNoTables (image_at T.Start) → (content : _) →
-        HasRows content (state S.Store club.old) → result.report ≡ Copied → HasCopyOf content result.copy }
-    ensures after_crash { HasCleanDisk (state S.Store club.new) → HaveNoTables (image_at T.Start) → (content : _) →
-        HasRows content (state S.Store club.old) → HasCopyOrNone content result.copy }
+    ensures copied { HasCleanDisk (state S.Store club.new) → HaveNoTables (image_at T.Start) → IsServed version →
+        (content : _) → HasRowsIn version content (state S.Store club.old) → result.report ≡ Copied →
+        HasCopyOf version content result.copy }
+    ensures after_crash { HasCleanDisk (state S.Store club.new) → HaveNoTables (image_at T.Start) → IsServed version →
+        (content : _) → HasRowsIn version content (state S.Store club.old) →
+        HasCopyOrNone version content result.copy }
 {
     let mut copy = match open_new(rt, path, start) {
         Ok(copy) => copy,
         Err(report) => return BackupResult { report, copy: None },
     };
     opened_empty_holds(&copy);
-    match club_orders::back_up(rt.alloc(), club, &mut copy) {
+    match club_orders::back_up(rt.alloc(), version, club, &mut copy) {
         Report::Copied => finish(rt, copy, path),
         report => BackupResult {
             report,
@@ -133,7 +141,8 @@ fn copy_into<S: Alter, T: Start>(
 ///
 /// - `kept`: the club's files hold what they held, also after a crash.
 /// - `refuses`, `untaken`: the reason why a file was rejected is true, and no copy is created.
-/// - `copied`, `sound`: after `Report::Copied` the club is legal, and the copy's file alone holds all its tables.
+/// - `copied`, `sound`: after `Report::Copied` the club is legal, and the copy's file alone holds all its tables, in
+///   the club's schema.
 /// - `after_crash`: after an error or a crash the copy is empty or complete.
 pub fn back_up<S: RepeatableStart, T: Start>(
     rt: &HostRuntime,
@@ -157,9 +166,10 @@ pub fn back_up<S: RepeatableStart, T: Start>(
         AreSound (image_at S.Start)) }
     ensures copied { IfSome result.1 (λ store. IsClean (store_view store) → HaveNoTables (image_at T.Start) →
         (s : ClubState) → AreFilesOf s (image_at S.Start) → result.0.report ≡ Copied →
-        HasCopyOf (tables s) result.0.copy) }
+        HasCopyOf (version_of s) (tables s) result.0.copy) }
     ensures after_crash { IfSome result.1 (λ store. IsClean (store_view store) → HaveNoTables (image_at T.Start) →
-        (s : ClubState) → AreFilesOf s (image_at S.Start) → HasCopyOrNone (tables s) result.0.copy) }
+        (s : ClubState) → AreFilesOf s (image_at S.Start) →
+        HasCopyOrNone (version_of s) (tables s) result.0.copy) }
 {
     let conn = match open_with_retries(rt, file, OpenMode::Ordering, start) {
         Ok(conn) => conn,
@@ -169,8 +179,8 @@ pub fn back_up<S: RepeatableStart, T: Start>(
     let (report, conn) = verify(rt.alloc(), conn);
     let mut conn = conn;
     match report {
-        Report::Sound => {
-            let done = copy_into(rt, &mut conn, path, copy_start);
+        Report::Sound(version) => {
+            let done = copy_into(rt, version, &mut conn, path, copy_start);
             (done, Some(close(conn)))
         }
         report => (BackupResult { report, copy: None }, Some(close(conn))),

@@ -25,7 +25,7 @@ impl<S: Alter> ClubService for DeskClub<S> {
     ghost use Rattle.sqlite.specs.State.{HasCleanDisk};
     ghost use Rattle.http_desk.specs.declared.faults.ClubFault.TheVariants.{Reopen};
     ghost use Rattle.club_session.specs.Served.{DeskState, served};
-    ghost use Rattle.club_session.specs.ServedStates.{IsLeft, IsServed, served_stays, served_settled, left_wider};
+    ghost use Rattle.club_session.specs.ServedStates.{IsLeft, IsOpenIn, served_stays, served_settled, left_wider};
 
     ghost State = { DeskState };
 
@@ -33,9 +33,9 @@ impl<S: Alter> ClubService for DeskClub<S> {
 
     ghost IsClean = { λ b. HasCleanDisk (state S.Store b.club.connection) };
 
-    ghost Stands = { λ b s. IsServed b.club.needs_reopening (state S.Store b.club.connection) s };
+    ghost Stands = { λ b s. IsOpenIn b.club.has_arbiter b.club.needs_reopening (state S.Store b.club.connection) s };
 
-    ghost Leaves = { λ b s t. IsLeft b.club.needs_reopening (state S.Store b.club.connection) s t };
+    ghost Leaves = { λ b s t. IsLeft b.club.has_arbiter b.club.needs_reopening (state S.Store b.club.connection) s t };
 
     ghost IsShut = { λ b fault. (b.club.needs_reopening ≡ true) × (fault ≡ Reopen) };
 
@@ -68,9 +68,9 @@ impl<S: Alter> ClubService for DeskClub<S> {
         club_fault(self.club.apply(alloc, who, command, moment))
     }
 
-    ghost stays = { λ b s t stands. served_stays _ _ s t stands };
+    ghost stays = { λ b s t stands. served_stays _ _ _ s t stands };
 
-    ghost settled = { λ b s t stands. served_settled _ _ s t stands };
+    ghost settled = { λ b s t stands. served_settled _ _ _ s t stands };
 
-    ghost wider = { λ b s t left. left_wider _ _ s t left };
+    ghost wider = { λ b s t left. left_wider _ _ _ s t left };
 }

@@ -14,6 +14,7 @@ fn fault_of_store(fault: StoreFault) -> ClubFault
         StoreFault::Store => ClubFault::Store,
         StoreFault::Reopen => ClubFault::Reopen,
         StoreFault::Memory => ClubFault::Memory,
+        StoreFault::Schema(_) => ClubFault::Schema,
     }
 }
 

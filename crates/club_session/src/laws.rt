@@ -5,8 +5,8 @@ ghost use Rattle.club_session.specs.Repeats.{AnswersAlike};
 use club_games::{Draughts, Shogi};
 use club_laws::laws::commands_are_idempotent;
 
-/// A repeated request gets the reply of the accepted one, byte for byte, and changes nothing, whatever sessions came
-/// between (idempotence).
+/// A repeated request gets the reply of the accepted one, byte for byte, and changes nothing, whatever sessions and
+/// upgrades came between (idempotence). It has the key that the member has then.
 pub fn repeats_are_due_alike()
     ensures { AnswersAlike }
 {

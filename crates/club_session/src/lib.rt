@@ -30,8 +30,10 @@
 //!   schema 1 is refused by its number; `init` leaves other files unchanged.
 //! - `copy_log` (`empty`): the log that `release_files` removes behind a file that had none has no frame, and a crash
 //!   leaves nothing that it could not leave before.
-//! - `execute_order` (`carries`, `repeats`, `withheld`): `upgrade` makes schema 1 schema 2 with the same state, or
-//!   leaves one of the two. It changes nothing in schema 2, or in a file that it refuses.
+//! - `execute_order` (`carries`, `repeats`, `stays`, `withheld`): `upgrade` makes an earlier schema the requested one
+//!   with the same state, or leaves one of the two. It changes nothing in that schema or a later one, or in a file that
+//!   it refuses.
+//! - `execute_order` (`beside`): nothing is upgraded where a foreign table has the name of a new one.
 //!
 //! ## A serving session
 //!
@@ -49,8 +51,9 @@
 //! - `serve_files` (`shape`): the tables of an accepted file behave as a club's.
 //! - `serve_club` (`history`, `stands`, `acknowledged`, `answered`, `told`, `taken`, `shape`, `accepts_sound`): the
 //!   same over a connection that was just opened.
-//! - `repeats_are_due_alike`: an accepted request that is sent again, after any sessions and openings, has the same
-//!   answer and changes nothing. An offer of a draw has it until the next move.
+//! - `repeats_are_due_alike`: an accepted request that the member sends again, after any sessions and openings, under
+//!   the key that the member has then, has the same answer and changes nothing. An offer of a draw has it until the
+//!   next move.
 //!
 //! ## A backup
 //!

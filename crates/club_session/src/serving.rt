@@ -4,19 +4,19 @@ ghost use Rattle.std.specs.Prelude.{◌≡◌, ◌++◌, false, true, List, None
 ghost use Rattle.sqlite.specs.State.{HasCleanDisk, Opens, IsLive};
 ghost use Rattle.sqlite.specs.Held.{state};
 ghost use Rattle.sqlite.specs.Tree.{Trees};
+ghost use Rattle.store.specs.Clubs.{version_with};
 ghost use Rattle.store.specs.Histories.{HasState, IsReachable, IsHistory};
-ghost use Rattle.store_tables.specs.Placed.{HasClubTables};
-ghost use Rattle.store_tables.specs.declared.names.Version.TheVariants.{Current};
-ghost use Rattle.schema_match.specs.Shapes.{is_of_club};
+ghost use Rattle.store_tables.specs.Tables.{IsServed};
 ghost use Rattle.club_rows.specs.Club.{ClubState, IsClub};
 ghost use Rattle.club_check.specs.Refused.{HoldClub};
+ghost use Rattle.club_check.specs.Versions.{HasToldTables};
 ghost use Rattle.server.specs.declared.connections.Served.{Served};
 ghost use Rattle.club_session.specs.Acknowledged.{IsLedTo};
 ghost use Rattle.club_session.specs.internal.Acknowledged.{IsAfter, IsSettled};
 ghost use Rattle.club_session.specs.Served.{DeskState};
-ghost use Rattle.club_session.specs.ServedStates.{IsServed};
+ghost use Rattle.club_session.specs.ServedStates.{IsOpenIn};
 ghost use Rattle.club_session.specs.ToldFault.{IfOpened, IsOfClub};
-ghost use Rattle.club_session.specs.internal.ToldFault.{IsReportedFault, fault_after};
+ghost use Rattle.club_session.specs.internal.ToldFault.{HasServedSchema, IsReportedFault, fault_after};
 ghost use Rattle.club_session.specs.internal.Turns.{IsHistoryOn, IsReachableOn};
 
 use crate::desk_club::DeskClub;
@@ -40,15 +40,21 @@ fn serve_open<S: Alter, V: Connections>(
     ensures told { result ≡ club.new.club.needs_reopening }
     ensures stands { result ≡ false → HasCleanDisk (state S.Store club.new.club.connection) →
         (from : _) (them : _) (sessions : _) →
-        IsHistory from Current them sessions (state S.Store club.old.club.connection) →
-        IsHistoryOn from Current them sessions (state S.Store club.new.club.connection) }
+        IsHistory from (version_with club.old.club.has_arbiter) them sessions
+        (state S.Store club.old.club.connection) →
+        IsHistoryOn from (version_with club.old.club.has_arbiter) them sessions
+        (state S.Store club.new.club.connection) }
     ensures history { HasCleanDisk (state S.Store club.new.club.connection) → (from : _) (them : _) (sessions : _) →
-        IsHistory from Current them sessions (state S.Store club.old.club.connection) →
-        IsReachableOn from Current them sessions (state S.Store club.new.club.connection) }
+        IsHistory from (version_with club.old.club.has_arbiter) them sessions
+        (state S.Store club.old.club.connection) →
+        IsReachableOn from (version_with club.old.club.has_arbiter) them sessions
+        (state S.Store club.new.club.connection) }
     ensures acknowledged { (before : List Served) → V.HasServed visits.old before → (items : List Served) ×
         V.HasServed visits.new (before ++ items) × (HasCleanDisk (state S.Store club.new.club.connection) →
-        (s : DeskState) → IsServed false (state S.Store club.old.club.connection) s →
-        IsAfter club.new.club.needs_reopening (state S.Store club.new.club.connection) s items) }
+        (s : DeskState) →
+        IsOpenIn club.old.club.has_arbiter false (state S.Store club.old.club.connection) s →
+        IsAfter club.new.club.has_arbiter club.new.club.needs_reopening (state S.Store club.new.club.connection) s
+        items) }
 {
     requests_keep_clubs();
     for _ in 0..u64::MAX {
@@ -83,7 +89,7 @@ fn fault_after(has_failed: bool) -> Option<ClubFault>
 ///
 /// - `history`: any crash leaves a state that the history leads to, with commands of members and of the officer added,
 ///   in the schema that was there.
-/// - `stands`: without a fault none of these commands was cut off, and the club is of schema 2.
+/// - `stands`: without a fault none of these commands was cut off, and the club is of schema 2 or schema 3.
 /// - `acknowledged`: any crash leaves a state to which the requests and orders lead that `visits` served, in order.
 ///   Each reply that was sent is the one that the state before it determines, and its effect is in.
 /// - `answered`: without a fault this state is the same, whatever a crash leaves.
@@ -98,14 +104,14 @@ pub fn serve_club<S: Alter, V: Connections>(
     ensures idle { result.1.in_transaction ≡ false }
     ensures clean { HasCleanDisk (state S.Store result.1) → HasCleanDisk (state S.Store conn) }
     ensures history { HasCleanDisk (state S.Store result.1) → Opens (state S.Store conn) → IsLive (state S.Store conn) →
-        (from version : _) (them : _) (sessions : _) → them.version ≡ Current →
+        (from version : _) (them : _) (sessions : _) → IsServed them.version →
         IsReachable from version them sessions (state S.Store conn).committed.trees →
         IsReachableOn from version them sessions (state S.Store result.1) }
     ensures stands { HasCleanDisk (state S.Store result.1) → Opens (state S.Store conn) →
         IsLive (state S.Store conn) → result.0 ≡ None →
-        (from version : _) (them : _) (sessions : _) → them.version ≡ Current →
+        (from version : _) (them : _) (sessions : _) → IsServed them.version →
         IsReachable from version them sessions (state S.Store conn).committed.trees →
-        (version ≡ Current) × IsHistoryOn from Current them sessions (state S.Store result.1) }
+        IsServed version × IsHistoryOn from version them sessions (state S.Store result.1) }
     ensures told { HasCleanDisk (state S.Store result.1) →
         IsReportedFault (state S.Store conn) (state S.Store result.1) result.0 }
     // Whatever a crash leaves is a state to which the items lead that were served, in order. So it has the effect of
@@ -122,10 +128,10 @@ pub fn serve_club<S: Alter, V: Connections>(
         (s : ClubState) → IsClub s → HasState s (state S.Store conn).committed.trees →
         IsSettled s items (state S.Store result.1).may_leave) }
     ensures taken { HasCleanDisk (state S.Store result.1) → Opens (state S.Store conn) → IsLive (state S.Store conn) →
-        HasClubTables (state S.Store conn).now.schema →
+        HasToldTables (state S.Store conn).now →
         IfOpened result.0 (HoldClub (state S.Store conn).committed.trees) }
     // The tables' shape decides whether they are a club's, not the text of their CREATE statements.
-    ensures shape { IfOpened result.0 (is_of_club Current (state S.Store conn).now.schema ≡ true) }
+    ensures shape { IfOpened result.0 (HasServedSchema (state S.Store conn).now.schema) }
     ensures accepts_sound { HasCleanDisk (state S.Store result.1) → Opens (state S.Store conn) →
         IsLive (state S.Store conn) →
         (s : ClubState) → IsClub s → HasState s (state S.Store conn).committed.trees →

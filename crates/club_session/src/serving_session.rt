@@ -5,7 +5,7 @@ ghost use Rattle.sqlite_wal.specs.Files.{image_at};
 ghost use Rattle.sqlite_wal.specs.Recovery.{Image};
 ghost use Rattle.sqlite_store.specs.FileStore.{state as store_state, view as store_view};
 ghost use Rattle.sqlite_trees.specs.View.{IsClean};
-ghost use Rattle.store_tables.specs.declared.names.Version.TheVariants.{Current};
+ghost use Rattle.store_tables.specs.Tables.{IsServed};
 ghost use Rattle.store_files.specs.Finds.{AreReachable};
 ghost use Rattle.club_orders.specs.Report.{IsUnopened};
 ghost use Rattle.club_rows.specs.Club.{ClubState};
@@ -34,7 +34,7 @@ use store_files::close;
 ///
 /// - `history`: whatever a crash leaves, the next opening finds a state that the earlier history and commands of
 ///   members and of the officer lead to, in the schema that was there.
-/// - `whole`: without a fault none of these commands was cut off, and the club is of schema 2.
+/// - `whole`: without a fault none of these commands was cut off, and the club is of schema 2 or schema 3.
 /// - `acknowledged`: whatever a crash leaves, the next opening finds a state to which the requests and orders lead that
 ///   `visits` served, in order. Each reply that was sent is the one that the state before it determines, and its effect
 ///   is in. Without an opened file nothing is served (`unserved`).
@@ -52,14 +52,14 @@ pub fn serve_files<S: RepeatableStart, V: Connections>(
 )
     ensures unopened { result.1 ≡ None → IsUnopened result.0 }
     ensures history { IfSome result.1 (λ store. IsClean (store_view store) →
-        (from : _) (versions : _) (them : _) (sessions : _) → them.version ≡ Current →
+        (from : _) (versions : _) (them : _) (sessions : _) → IsServed them.version →
         AreReachable from versions them sessions (image_at S.Start) →
         (left : Image) → (store_state store).may_leave left → AreReachableOn from versions them sessions left) }
     ensures whole { IfSome result.1 (λ store. IsClean (store_view store) → result.0 ≡ Ok None →
-        (from : _) (versions : _) (them : _) (sessions : _) → them.version ≡ Current →
+        (from : _) (versions : _) (them : _) (sessions : _) → IsServed them.version →
         AreReachable from versions them sessions (image_at S.Start) →
         (left : Image) → (store_state store).may_leave left →
-        AreReachableWhole from (Current ∷ []) them sessions left) }
+        AreReachableWhole from versions them sessions left) }
     // Whatever a crash leaves, the next opening finds a state to which the items lead that were served, in order. So it
     // has the effect of each acknowledged one.
     ensures acknowledged { IfSome result.1 (λ store.

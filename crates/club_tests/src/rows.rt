@@ -88,8 +88,10 @@ fn wrong(alloc: Global, name: &str, rules: &str, key: &str) -> Result<Option<Tab
     let games = format!(in alloc; "(1, 'g1', {MOVED}), (2, {key}, {OPENING})")?;
     let rows = Rows {
         members: rows(alloc, MEMBERS, members.as_str())?,
+        keys: Vec::new(alloc),
         events: rows(alloc, EVENTS, "(1, 'autumn', 0, 60, 5)")?,
         event_rules: rows(alloc, EVENT_RULES, rules)?,
+        closings: Vec::new(alloc),
         challenges: Vec::new(alloc),
         games: rows(alloc, GAME_COLUMNS, games.as_str())?,
         meta: MetaRow {

@@ -5,7 +5,8 @@ use Rattle.club_requests.specs.declared.answers.Outcome.{Outcome}
 use Rattle.club_requests.specs.declared.refusals.Refusal.{Refusal}
 use Rattle.club_core.specs.Answer.{command_of, outcome_of}
 use Rattle.club_core.specs.State.{Command as Given, Request, officer}
-use Rattle.http_desk.specs.Served.{Club}
+use Rattle.http_desk.specs.Served.{Club, IsOfCall, IsOfCommand}
+use Rattle.http_desk.specs.declared.faults.ClubFault.{ClubFault}
 use Rattle.control_socket.specs.Answers.{encode_answer}
 use Rattle.control_socket.specs.Printed.{Print, print_of, printed, shown_printed}
 use Rattle.control_socket.specs.declared.orders.Operation.{Operation}

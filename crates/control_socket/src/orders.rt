@@ -2,10 +2,12 @@
 
 ghost use Rattle.std.specs.Prelude.{◌≡◌, ◌++◌, ℕ, List, Err, IfOk, codes};
 ghost use Rattle.club_requests.specs.AnswerText.{outcome_text};
+ghost use Rattle.club_core.specs.Answer.{command_of};
 ghost use Rattle.http_desk.specs.declared.faults.ClubFault.{ClubFault};
-ghost use Rattle.http_desk.specs.Served.{IsOfCall, Serves};
+ghost use Rattle.http_desk.specs.Served.{IsOfCall, IsOfCommand, Serves};
 ghost use Rattle.http_bodies.specs.ShownViews.{shown_view};
 ghost use Rattle.control_socket.specs.Orders.{HasRunOperation, HasSentAnswer, IsPrinted, state_after};
+ghost use Rattle.control_socket.specs.internal.Asking.{IsOfOperation};
 ghost use Rattle.control_socket.specs.Printed.{print_of, printed, shown_printed};
 ghost use Rattle.control_socket.specs.declared.orders.Operation.TheVariants as errand_is;
 ghost use Rattle.control_socket.specs.declared.orders.OrderFault.TheVariants.{NotDone};
@@ -88,7 +90,7 @@ fn give<C: ClubService>(
         Serves (C.Stands club.new) (C.Leaves club.new) s
         (state_after C.club s moment (errand_is.Command command.now)) (λ printed.
         IsPrinted C.club s moment (errand_is.Command command.now) (print_of printed.is_done printed.text.items))
-        IsOfCall result }
+        (IsOfCommand (command_of command.now)) result }
 {
     let outcome = match club.apply(alloc, &Who::Officer, command, moment) {
         Ok(outcome) => outcome,
@@ -134,7 +136,7 @@ fn obey<C: ClubService>(
     ensures serves { C.IsClean club.new → (s : C.State) → C.Stands club.old s →
         Serves (C.Stands club.new) (C.Leaves club.new) s (state_after C.club s moment errand.now)
         (λ printed. IsPrinted C.club s moment errand.now (print_of printed.is_done printed.text.items))
-        IsOfCall result }
+        (IsOfOperation errand.now) result }
 {
     match errand {
         Operation::Command(command) => give(alloc, club, command, moment),

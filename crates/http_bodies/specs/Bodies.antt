@@ -1,8 +1,8 @@
 -- JSON bodies of requests and replies.
-use Rattle.std.specs.Prelude.{ℕ, Bool, List, Option, Some, None, option_map, option_and_then}
+use Rattle.std.specs.Prelude.{ℕ, Bool, false, List, Option, Some, None, option_map, option_and_then}
 use Rattle.std.specs.Prelude.{codes, if◌then◌else◌}
 use Rattle.std.specs.Str.{is_utf8}
-use Rattle.serde_json.specs.Data.{Data, string, object, no_members, member}
+use Rattle.serde_json.specs.Data.{Data, boolean, string, object, no_members, member}
 use Rattle.serde_json.specs.Read.{read}
 use Rattle.serde_json.specs.Find.{get, as_str, as_bool}
 use Rattle.squares.specs.Sides.{score_text}
@@ -10,8 +10,7 @@ use Rattle.club_rules.specs.EndName.{end_text}
 use Rattle.club_requests.specs.OutsideEnd.{outside_text}
 use Rattle.club_requests.specs.Outcome.{MoveReply, Reply, member_added, event_added, game_seated, moved, draw_offered}
 use Rattle.club_requests.specs.Outcome.{game_ended, games_swept, challenge_opened, challenge_withdrawn}
-use Rattle.club_requests.specs.Outcome.{challenge_refused}
-use Rattle.club_requests.specs.Outcome.{challenge_accepted}
+use Rattle.club_requests.specs.Outcome.{challenge_accepted, challenge_refused, event_closed, key_given}
 use Rattle.club_core.specs.State.{Command, open_challenge, answer_challenge}
 use Rattle.club_lists.specs.Values.{text_or_null, number_data}
 
@@ -41,7 +40,7 @@ ended_data id end result = object
     (member (codes "game") (number_data id)
     (member (codes "result") (string result) no_members)))
 
--- the id of a new member, event or game
+-- the id of a new member, event or game, or the number of a new key
 abbrev pub added_data : List ℕ → ℕ → Data
 added_data kind id = object (member kind (number_data id) no_members)
 
@@ -61,6 +60,10 @@ started_data n id = object
     (member (codes "game") (number_data id)
     (member (codes "state") (string (codes "accepted")) no_members)))
 
+-- an event that takes no challenges
+abbrev pub closed_data : Data
+closed_data = object (member (codes "open") (boolean false) no_members)
+
 -- the answer to a command; `id` is the number of the game, if it was a command on a game
 abbrev pub reply_data : ℕ → Reply → Data
 reply_data id (moved m) = moved_data id m
@@ -74,6 +77,8 @@ reply_data id (challenge_opened n) = challenge_data n (codes "open")
 reply_data id (challenge_withdrawn n) = challenge_data n (codes "withdrawn")
 reply_data id (challenge_refused n) = challenge_data n (codes "refused")
 reply_data id (challenge_accepted n game) = started_data n game
+reply_data id (key_given n) = added_data (codes "key") n
+reply_data id event_closed = closed_data
 
 -- ---- requests
 

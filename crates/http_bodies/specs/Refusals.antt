@@ -25,6 +25,7 @@ club_status club.NoOffer = 409
 club_status club.NameTaken = 409
 club_status club.Full = 409
 club_status club.NotDeclarable = 409
+club_status club.EventClosed = 409
 club_status club.NotInThisGame = 422
 club_status club.BadValue = 422
 club_status (club.Play ply refusal) = 422

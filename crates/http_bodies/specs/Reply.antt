@@ -72,6 +72,7 @@ key_lines club.NameTaken = []
 key_lines club.BadValue = []
 key_lines club.Full = []
 key_lines club.NotDeclarable = []
+key_lines club.EventClosed = []
 key_lines (club.Play ply refusal) = []
 key_lines (club.Record refusal) = []
 

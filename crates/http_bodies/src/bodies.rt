@@ -8,7 +8,7 @@ ghost use Rattle.club_requests.specs.OutsideEnd.{outside_text};
 ghost use Rattle.club_core.specs.Answer.{move_reply_of, reply_of};
 ghost use Rattle.club_lists.specs.Values.{text_or_null};
 ghost use Rattle.http_bodies.specs.Bodies.{moved_data, offered_data, ended_data, added_data};
-ghost use Rattle.http_bodies.specs.Bodies.{swept_data, reply_data, challenge_data, started_data};
+ghost use Rattle.http_bodies.specs.Bodies.{swept_data, reply_data, challenge_data, closed_data, started_data};
 
 use crate::reply::text_of;
 use club_requests::{Answer, MoveAnswer, OutsideEnd};
@@ -87,6 +87,18 @@ fn started_value(alloc: Global, number: u32, game: u32) -> Result<Value, AllocEr
     json!(in alloc; {"challenge": number, "game": game, "state": "accepted"})
 }
 
+fn key_value(alloc: Global, number: u64) -> Result<Value, AllocError>
+    ensures { IfOk result (λ v. view v ≡ added_data (codes "key") number) }
+{
+    json!(in alloc; {"key": number})
+}
+
+fn closed_value(alloc: Global) -> Result<Value, AllocError>
+    ensures { IfOk result (λ v. view v ≡ closed_data) }
+{
+    json!(in alloc; {"open": false})
+}
+
 // The answer to a command as JSON. `id` is the number of the game, if it was a command on a game.
 fn answer_value(alloc: Global, id: u32, answer: Answer) -> Result<Value, AllocError>
     ensures { IfOk result (λ v. view v ≡ reply_data id (reply_of answer)) }
@@ -103,6 +115,8 @@ fn answer_value(alloc: Global, id: u32, answer: Answer) -> Result<Value, AllocEr
         Answer::ChallengeWithdrawn { number } => challenge_value(alloc, number, "withdrawn"),
         Answer::ChallengeRefused { number } => challenge_value(alloc, number, "refused"),
         Answer::ChallengeAccepted { number, game } => started_value(alloc, number, game),
+        Answer::KeyGiven { number } => key_value(alloc, number),
+        Answer::EventClosed => closed_value(alloc),
     }
 }
 

@@ -50,6 +50,7 @@ fn club_status(refusal: Refusal) -> u16
         Refusal::NameTaken => 409,
         Refusal::Full => 409,
         Refusal::NotDeclarable => 409,
+        Refusal::EventClosed => 409,
         Refusal::NotInThisGame => 422,
         Refusal::BadValue => 422,
         Refusal::Play { ply: _, refusal: _ } => 422,

@@ -9,3 +9,4 @@ pub mod SegmentLemmas
 pub mod AskedRoutes
 pub mod EachRow
 pub mod HostLemmas
+pub mod MembersCommands

@@ -1,11 +1,11 @@
 -- A club as the HTTP application sees it, and the effect of a call.
-use Rattle.std.specs.Prelude.{◌≡◌, ◌⊎◌, ℕ, List, Option, Result, Ok, Err}
+use Rattle.std.specs.Prelude.{◌≡◌, ◌⊎◌, ℕ, List, Option, Result, Ok, Err, true}
 use Rattle.club_requests.specs.Outcome.{Outcome}
 use Rattle.club_requests.specs.declared.refusals.Refusal.{Refusal}
 use Rattle.club_requests.specs.declared.questions.Question.{Question}
-use Rattle.club_core.specs.State.{Request}
+use Rattle.club_core.specs.State.{Command, Request, needs_arbiter}
 use Rattle.http_desk.specs.declared.faults.ClubFault.{ClubFault}
-use Rattle.http_desk.specs.declared.faults.ClubFault.TheVariants.{Store, Memory}
+use Rattle.http_desk.specs.declared.faults.ClubFault.TheVariants.{Schema, Store, Memory}
 
 -- a club as an abstract machine: answers are relations, steps are functions
 pub record Club (S : Type 0) : Type 1 where
@@ -19,6 +19,11 @@ pub record Club (S : Type 0) : Type 1 where
 -- the faults of a call on an open club: a database call failed, or out of memory
 abbrev pub IsOfCall : ClubFault → Type 0
 IsOfCall fault = (fault ≡ Store) ⊎ (fault ≡ Memory)
+
+-- the faults of a command on an open club: those of a call, and 71 if it is an arbiter's and the file has no tables
+-- for it
+abbrev pub IsOfCommand : Command → ClubFault → Type 0
+IsOfCommand command fault = IsOfCall fault ⊎ ((needs_arbiter command ≡ true) × (fault ≡ Schema))
 
 -- The effect of a call in the state `s`: on Ok a right answer and the state `next`; on Err a possible fault and one
 -- of the two states.

@@ -1,15 +1,17 @@
 //! Commands of members: from a path and a body to the club, and its outcome to a reply.
-ghost use Rattle.std.specs.Prelude.{◌≡◌, IfOk, option_map};
+ghost use Rattle.std.specs.Prelude.{◌≡◌, IfOk, false, option_map};
 ghost use Rattle.serde_json.specs.Written.{compact_text};
 ghost use Rattle.club_core.specs.Answer.{command_of, game_command_of, outcome_of, reply_of, who_of};
-ghost use Rattle.club_core.specs.State.{key_holder, on_game, withdraw_challenge};
+ghost use Rattle.club_core.specs.State.{key_holder, needs_arbiter, on_game, withdraw_challenge};
 ghost use Rattle.http_bodies.specs.Bodies.{reply_data};
 ghost use Rattle.http_bodies.specs.declared.reply.ContentType.TheVariants.{Json};
 ghost use Rattle.http_desk.specs.Desk.{shows, command_given, outcome_answer, serve_command};
-ghost use Rattle.http_desk.specs.internal.Desk.{ServesDue};
+ghost use Rattle.http_desk.specs.Served.{IsOfCall, Serves};
+ghost use Rattle.http_desk.specs.internal.Desk.{ServesDue, is_for_arbiter};
 ghost use Rattle.http_desk.specs.internal.DeskViews.{answer_view, command_view};
 
 use crate::desk::{AnswerFault, Response};
+use crate::faults::ClubFault;
 use crate::routes::Endpoint;
 use crate::served::ClubService;
 use crate::table::GameAction;
@@ -101,7 +103,26 @@ pub(crate) fn withdrawal(number: u32) -> Command
     })
 }
 
-// Executes a command, or refuses the body if there is none. `id` is the number of its game or challenge.
+// Executes a command that is no arbiter's, so that its faults are those of a call.
+fn apply_command<C: ClubService>(
+    alloc: Global,
+    club: &mut C,
+    who: &Who,
+    command: &Command,
+    moment: Moment,
+) -> Result<Outcome, ClubFault>
+    ensures clean { C.IsClean club.new → C.IsClean club.old }
+    ensures serves { C.IsClean club.new → (s : C.State) → C.Stands club.old s →
+        needs_arbiter (command_of command.now) ≡ false → Serves (C.Stands club.new) (C.Leaves club.new) s
+        (C.club.step s (record { who = who_of who.now; command = command_of command.now; moment = moment })).0
+        (λ outcome. outcome_of outcome ≡
+        (C.club.step s (record { who = who_of who.now; command = command_of command.now; moment = moment })).1)
+        IsOfCall result }
+{
+    club.apply(alloc, who, command, moment)
+}
+
+// Executes a command of a member, or refuses the body if there is none. `id` is the number of its game or challenge.
 pub(crate) fn serve_command<C: ClubService>(
     alloc: Global,
     club: &mut C,
@@ -112,6 +133,7 @@ pub(crate) fn serve_command<C: ClubService>(
 ) -> Result<Response, AnswerFault>
     ensures clean { C.IsClean club.new → C.IsClean club.old }
     ensures serves { C.IsClean club.new → (s : C.State) → C.Stands club.old s →
+        is_for_arbiter (option_map command_of command) ≡ false →
         ServesDue C.club (C.Stands club.new) (C.Leaves club.new) answer_view s
         (serve_command C.club s moment key.now id (option_map command_of command)) result }
 {
@@ -119,7 +141,7 @@ pub(crate) fn serve_command<C: ClubService>(
         return Ok(Response::Refused(HttpRefusal::BadBody));
     };
     let who = key_holder(alloc, key)?;
-    let outcome = club.apply(alloc, &who, &command, moment)?;
+    let outcome = apply_command(alloc, club, &who, &command, moment)?;
     let shown = outcome_shown(alloc, id, outcome)?;
     Ok(shown)
 }

@@ -2,7 +2,7 @@
 ghost use Rattle.std.specs.Prelude.{◌≡◌, Err, option_map, string_bytes};
 ghost use Rattle.club_core.specs.Answer.{command_of, outcome_of, who_of};
 ghost use Rattle.http_bodies.specs.ShownViews.{shown_view};
-ghost use Rattle.http_desk.specs.Served.{Club, IsOfCall, Serves};
+ghost use Rattle.http_desk.specs.Served.{Club, IsOfCall, IsOfCommand, Serves};
 
 use crate::faults::ClubFault;
 use clocks::Moment;
@@ -11,10 +11,12 @@ use std::alloc::Global;
 
 /// A club that can be served.
 ///
-/// A call that fails leaves the state before it or the one after it; its fault is `Store` or `Memory`. A failed club
-/// answers every call with its fault, whichever that is. A club that could not be opened has no state.
+/// A call that fails leaves the state before it or the one after it; its fault is `Store` or `Memory`, or `Schema` for
+/// an arbiter's command. A failed club answers every call with its fault, whichever that is. A club that could not be
+/// opened has no state.
 pub trait ClubService {
     ghost use Rattle.http_desk.specs.declared.faults.ClubFault.{ClubFault};
+    ghost use Rattle.http_desk.specs.declared.faults.ClubFault.TheVariants.{Schema};
 
     ghost State: { Type 0 };
 
@@ -73,11 +75,12 @@ pub trait ClubService {
     ///
     /// # Errors
     ///
-    /// As for `member_by_key`.
+    /// As for `member_by_key`, and `Schema` if the command is an arbiter's and the file has no tables for it.
     ///
     /// # Guarantees
     ///
-    /// `serves`: the state and the outcome are those of one step of the club; at a fault the step was made or not.
+    /// - `serves`: the state and the outcome are those of one step of the club; at a fault the step was made or not.
+    /// - `schema`: at the fault `Schema` the step was not made, and the club goes on.
     fn apply(
         &mut self,
         alloc: Global,
@@ -93,7 +96,8 @@ pub trait ClubService {
             (club.step s (record { who = who_of who.now; command = command_of command.now; moment = moment })).0
             (λ outcome. outcome_of outcome ≡
             (club.step s (record { who = who_of who.now; command = command_of command.now; moment = moment })).1)
-            IsOfCall result };
+            (IsOfCommand (command_of command.now)) result }
+        ensures schema { IsClean self.new → (s : State) → Stands self.old s → result ≡ Err Schema → Stands self.new s };
 
     /// A present state is a possible result of a failed call, as the state before it (`stays`) and after it
     /// (`settled`).

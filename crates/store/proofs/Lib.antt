@@ -1,5 +1,6 @@
 pub mod HistoryLemmas
 pub mod LegalLemmas
+pub mod NameLemmas
 pub mod OpeningLemmas
 pub mod Proved
 pub mod RunLemmas

@@ -10,13 +10,14 @@ use Rattle.store_tables.specs.Migrations.{HoldsInVersion, LeavesInVersion}
 use Rattle.store_tables.specs.Over.{LeavesBeside, Neighbours, alone}
 use Rattle.store_tables.specs.Tables.{schema_number}
 use Rattle.store_tables.specs.declared.names.Version.{Version}
-use Rattle.store_tables.specs.declared.names.Version.TheVariants.{Current}
+use Rattle.store_tables.specs.declared.names.Version.TheVariants.{V2, V3}
 use Rattle.club_requests.specs.declared.requests.Request as given_request
 use Rattle.club_requests.specs.declared.answers.Outcome as given_outcome
 use Rattle.club_core.specs.Answer.{outcome_of, request_of}
 use Rattle.club_core.specs.State.{Request, opening_state, is_accepted}
 use Rattle.club_rows.specs.Club.{ClubState, IsClub, tables}
-use Rattle.club_rows.specs.FirstSchema.{IsClubOf, tables_at}
+use Rattle.club_rows.specs.FirstSchema.{IsClubOf, tables_at, upgraded_to}
+use Rattle.club_rows.specs.Tables.{version_of}
 use Rattle.schema_match.specs.Shapes.{is_of_club}
 use Rattle.store.specs.declared.club.run.Run.{Run}
 use Rattle.store.specs.Runs.{club_fold}
@@ -53,12 +54,14 @@ pub record Place : Type 0 where
   pub version : Version
   pub state : ClubState
 
--- An upgrade keeps the state. It ends in its schema, which is no earlier one; if it was cut off, perhaps in the one
--- before.
+-- the place after an upgrade to this schema: nothing else changes, but that schema 3 gives the club an arbiter
+abbrev pub place_in : Version → Place → Place
+place_in to before = record { version = to; state = upgraded_to to before.state }
+
+-- An upgrade ends in its schema, which is no earlier one; if it was cut off, perhaps in the one before.
 pub record UpgradeLeads (before : Place) (to : Version) (answered : Bool) (after : Place) : Type 0 where
   pub later : schema_number before.version ≤ schema_number to
-  pub same : after.state ≡ before.state
-  pub version : (after.version ≡ to) ⊎ ((answered ≡ false) × (after.version ≡ before.version))
+  pub place : (after ≡ place_in to before) ⊎ ((answered ≡ false) × (after ≡ before))
 
 -- a session keeps the schema
 abbrev pub StepLeadsTo : Place → HistoryStep → Place → Type 0
@@ -74,14 +77,14 @@ HistoryLeadsTo before (chapter ∷ chapters) after = (between : Place) × StepLe
 
 -- an empty club of this version
 abbrev pub opens_as : Version → Place
-opens_as version = record { version = version; state = opening_state }
+opens_as version = record { version = version; state = upgraded_to version opening_state }
 
 -- The database has the tables of this state, alone or beside foreign tables, in a schema equivalent to a club's.
 pub record HasState (s : ClubState) (trees : Trees) : Type 0 where
   pub them : Neighbours
-  pub version : them.version ≡ Current
+  pub version : them.version ≡ version_of s
   pub leaves : LeavesBeside them (tables s) trees
-  pub shape : is_of_club Current them.schema ≡ true
+  pub shape : is_of_club (version_of s) them.schema ≡ true
 
 -- From an empty club in the schema `from` the steps lead to a legal state in this schema, whose tables a later opening
 -- finds in the database, beside these foreign tables. `them` is the database after a migration, or this one.
@@ -138,7 +141,8 @@ pub record IsAfter (them : Neighbours) (before : ClubState) (requests : List giv
   pub legal : IsClub (club_fold before (map request_of (take count requests)))
   pub leaves : LeavesBeside them (tables (club_fold before (map request_of (take count requests)))) trees
 
--- the empty history of a club that was created in schema 2 leads to the tables of an empty club in schema 2
-abbrev pub BeginsAtOpening : Type 0
-BeginsAtOpening =
-    (trees : Trees) → Leaves (tables opening_state) trees → IsReachable Current Current (alone Current) [] trees
+-- the empty history of a club that was created in schema 2 or in schema 3 leads to the tables of an empty club
+abbrev pub BeginsAtOpening : Version → Type 0
+BeginsAtOpening version =
+    (trees : Trees) → Leaves version (tables (upgraded_to version opening_state)) trees
+    → IsReachable version version (alone version) [] trees

@@ -2,7 +2,7 @@
 -- hold of it.
 use Rattle.std.specs.Prelude.{false, if◌then◌else◌, List, [], ◌∷◌, map}
 use Rattle.store_tables.specs.declared.names.Version.{Version}
-use Rattle.store_tables.specs.declared.names.Version.TheVariants.{First, Current}
+use Rattle.store_tables.specs.declared.names.Version.TheVariants.{V1, V2, V3}
 use Rattle.club_core.specs.Events.{Event}
 use Rattle.club_core.specs.State.{Request, is_accepted}
 use Rattle.club_rows.specs.Club.{ClubState}
@@ -18,8 +18,9 @@ undeclared s = record s { events = map without_declarations s.events }
 
 -- what the tables of this schema hold of a state; those of schema 1 hold no declarations
 abbrev pub held_in : Version → ClubState → ClubState
-held_in First s = undeclared s
-held_in Current s = s
+held_in V1 s = undeclared s
+held_in V2 s = s
+held_in V3 s = s
 
 -- the state after a request to the program of this schema
 abbrev pub next_in : Version → ClubState → Request → ClubState

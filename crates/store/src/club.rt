@@ -1,28 +1,32 @@
 //! An open club: creation, opening, and the execution of one command.
 
-ghost use Rattle.std.specs.Prelude.{◌≡◌, ◌≤◌, ◌⊎◌, ◌++◌, ◌∷◌, [], false, true, pos, Err, IfOk, IfErr, OnOk, OnErr};
+ghost use Rattle.std.specs.Prelude.{◌&&◌, not};
+ghost use Rattle.std.specs.Prelude.{◌≡◌, ◌≢◌, ◌≤◌, ◌⊎◌, ◌++◌, ◌∷◌, [], false, true, pos, Err, IfOk, IfErr, OnOk, OnErr};
 ghost use Rattle.sqlite.specs.Effect.{IsDatabase};
 ghost use Rattle.sqlite.specs.State.{HasCleanDisk, IsUnchanged};
 ghost use Rattle.sqlite.specs.Held.{state};
 ghost use Rattle.sqlite_trees.specs.View.{doubt};
-ghost use Rattle.store_tables.specs.Placed.{HasClubTables, HasTables, HasTablesOf};
+ghost use Rattle.store_tables.specs.Placed.{HasTables, HasTablesOf};
 ghost use Rattle.store_tables.specs.Contents.{IsExactlyEmpty, IsEmpty};
-ghost use Rattle.store_tables.specs.Club.{IsExactly, IsOpened, Leaves};
+ghost use Rattle.store_tables.specs.Club.{IsExactly, Leaves};
 ghost use Rattle.store_tables.specs.Migrations.{HoldsInVersion};
-ghost use Rattle.store_tables.specs.Over.{alone, HasRows, HoldsClubAmong, LeavesBeside};
+ghost use Rattle.store_tables.specs.Over.{alone, HoldsClubAmong, LeavesBeside};
 ghost use Rattle.store_tables.specs.Room.{IsWithoutClub, LeavesNoClub};
 ghost use Rattle.store_tables.specs.Reading.{KeepsContent, KeepsMay, OnlyReads, Reads};
-ghost use Rattle.store_tables.specs.declared.names.Version.TheVariants.{First, Current};
+ghost use Rattle.store_tables.specs.declared.names.Version.TheVariants.{V1, V2, V3};
 ghost use Rattle.schema_match.specs.Shapes.{is_of_club};
 ghost use Rattle.club_check.specs.ReasonIsRight.{IsRightFault};
 ghost use Rattle.club_check.specs.RightTables.{NamesFirstDamaged};
-ghost use Rattle.club_check.specs.Versions.{HasClub, HoldsRows};
-ghost use Rattle.club_rows.specs.FirstSchema.{IsFirstClub, first_tables};
+ghost use Rattle.club_check.specs.Versions.{HasClub, HasToldTables, HoldsRows, IsOpenedAt};
+ghost use Rattle.club_rows.specs.FirstSchema.{IsClubOf, IsFirstClub, first_tables, upgraded_to};
 ghost use Rattle.store.specs.Histories.{IsReachable, IsHistory, answered_session, cut_session};
-ghost use Rattle.store_tables.specs.internal.Changed.{changed};
+ghost use Rattle.store_tables.specs.internal.Changed.{FitsVersion, changed};
+ghost use Rattle.store_tables.specs.Tables.{IsServed};
+ghost use Rattle.store.specs.Clubs.{Asks, Serves, version_with};
+ghost use Rattle.club_rows.specs.Tables.{version_of};
 ghost use Rattle.club_changes.specs.Whole.{IsAccepted};
-ghost use Rattle.club_core.specs.Answer.{answered, outcome_of};
-ghost use Rattle.club_core.specs.State.{opening_state};
+ghost use Rattle.club_core.specs.Answer.{answered, command_of, outcome_of};
+ghost use Rattle.club_core.specs.State.{needs_arbiter, opening_state};
 ghost use Rattle.club_rows.specs.Club.{ClubState, IsClub, tables};
 ghost use Rattle.club_changes.specs.Steps.{request, club_step, club_next};
 
@@ -36,7 +40,7 @@ mod shut;
 use crate::command::decide_request;
 use crate::fault::StoreFault;
 use clocks::Moment;
-use club_changes::CommandEffect;
+use club_changes::{CommandEffect, needs_arbiter};
 use club_check::{OpenFault, check_database, fault_of};
 use club_requests::{Command, Outcome, Who};
 pub use run::Run;
@@ -45,12 +49,14 @@ use sqlite::{Alter, Connection};
 use std::alloc::Global;
 use std::marker::Model;
 use store_sql::{commit_changes, create_tables};
-use store_tables::Changes;
+use store_tables::{Changes, Version};
 
 /// A club's open database, over any store of `sqlite`. No transaction is open between calls.
 #[derive(Drop)]
 pub struct Club<S: Alter> {
     connection: Connection<S>,
+    /// Whether the club has an arbiter: schema 3, otherwise schema 2.
+    has_arbiter: bool,
     /// A call failed since the database was opened, so every later call is refused.
     needs_reopening: bool,
 }
@@ -63,9 +69,42 @@ impl<S: Alter> Model for Club<S> {
 
     ghost coded = { kept_code S.code };
 
-    ghost view = { λ c. record { connection = c.connection; needs_reopening = c.needs_reopening } };
+    ghost view = { λ c. record {
+      connection = c.connection;
+      has_arbiter = c.has_arbiter;
+      needs_reopening = c.needs_reopening;
+    } };
 
     ghost invariant = { λ c. c.connection.in_transaction ≡ false };
+}
+
+/// The schema version of a club with or without an arbiter.
+fn version_of(has_arbiter: bool) -> Version
+    ensures { result ≡ version_with has_arbiter }
+{
+    if has_arbiter {
+        Version::V3
+    } else {
+        Version::V2
+    }
+}
+
+/// Whether a club of this version has an arbiter.
+fn is_third(version: Version) -> bool
+    ensures { IsServed version → version_with result ≡ version }
+{
+    match version {
+        Version::V1 => false,
+        Version::V2 => false,
+        Version::V3 => true,
+    }
+}
+
+/// Whether only a club with an arbiter can record the command, and this club has none.
+fn lacks_arbiter(has_arbiter: bool, command: &Command) -> bool
+    ensures { result ≡ (not has_arbiter && needs_arbiter (command_of command.now)) }
+{
+    !has_arbiter && needs_arbiter(command)
 }
 
 /// A connection whose database was not accepted, with the reason.
@@ -75,8 +114,8 @@ pub struct Unopened<S: Alter> {
     pub conn: Connection<S>,
 }
 
-/// Creates the tables of an empty club, in an empty database or beside foreign tables, in one transaction with one
-/// commit. `_alloc` is not used.
+/// Creates the tables of an empty club, with an arbiter (schema 3) or without one (schema 2), in an empty database or
+/// beside foreign tables, in one transaction with one commit. `_alloc` is not used.
 ///
 /// # Errors
 ///
@@ -86,14 +125,20 @@ pub struct Unopened<S: Alter> {
 /// # Guarantees
 ///
 /// `after_crash`, `behind_fault`: after an error or a crash there is the empty club or no club, and foreign tables keep
-/// their rows. `begins`: the history of the new club, in schema 2, is empty.
-pub fn create<S: Alter>(_alloc: Global, conn: Connection<S>) -> Result<Club<S>, Unopened<S>>
+/// their rows. `begins`: the history of the new club, in its schema, is empty.
+pub fn create<S: Alter>(
+    _alloc: Global,
+    conn: Connection<S>,
+    has_arbiter: bool,
+) -> Result<Club<S>, Unopened<S>>
     requires { conn.in_transaction ≡ false }
     ensures ready { IfOk result (λ club. club.needs_reopening ≡ false) }
+    ensures schema { IfOk result (λ club. club.has_arbiter ≡ has_arbiter) }
     ensures stored { IfOk result (λ club. HasCleanDisk (state S.Store club.connection) → IsExactlyEmpty
-        (state S.Store conn) → IsExactly (tables opening_state) (state S.Store club.connection)) }
+        (state S.Store conn) → IsExactly (version_with has_arbiter)
+        (tables (upgraded_to (version_with has_arbiter) opening_state)) (state S.Store club.connection)) }
     ensures fresh { IfOk result (λ club. HasCleanDisk (state S.Store club.connection) →
-        ¬ HasTables First (state S.Store conn).now.schema) }
+        ¬ HasTables V1 (state S.Store conn).now.schema) }
     ensures clean { IfOk result (λ club. doubt (state S.Store conn).is_clean ≤ doubt
         (state S.Store club.connection).is_clean) }
     ensures idle { IfErr result (λ u. u.conn.in_transaction ≡ false) }
@@ -101,31 +146,34 @@ pub fn create<S: Alter>(_alloc: Global, conn: Connection<S>) -> Result<Club<S>, 
     ensures empty { IfErr result (λ u. HasCleanDisk (state S.Store u.conn) → IsExactlyEmpty (state S.Store conn) →
         u.fault ≡ OpenFault.Store) }
     ensures fault { IfErr result (λ u. HasCleanDisk (state S.Store u.conn) → IsExactlyEmpty (state S.Store conn) →
-        (db : _) → (state S.Store u.conn).may_leave db → IsEmpty db ⊎ Leaves (tables opening_state) db) }
+        (db : _) → (state S.Store u.conn).may_leave db → IsEmpty db ⊎ Leaves (version_with has_arbiter)
+        (tables (upgraded_to (version_with has_arbiter) opening_state)) db) }
     ensures begins { IfOk result (λ club. HasCleanDisk (state S.Store club.connection) → IsExactlyEmpty
-        (state S.Store conn) → IsHistory Current Current (alone Current) [] (state S.Store club.connection)) }
+        (state S.Store conn) → IsHistory (version_with has_arbiter) (version_with has_arbiter)
+        (alone (version_with has_arbiter)) [] (state S.Store club.connection)) }
     ensures after_crash { IfErr result (λ u. HasCleanDisk (state S.Store u.conn) → IsExactlyEmpty (state S.Store conn) →
         (db : _) → (state S.Store u.conn).may_leave db → IsEmpty db ⊎
-        IsReachable Current Current (alone Current) [] db) }
+        IsReachable (version_with has_arbiter) (version_with has_arbiter) (alone (version_with has_arbiter)) [] db) }
     // Beside foreign tables, which keep their rows.
     ensures behind { IfOk result (λ club. HasCleanDisk (state S.Store club.connection) → (them : _) →
-        IsWithoutClub them (state S.Store conn) →
-        IsHistory Current Current them [] (state S.Store club.connection)) }
+        them.version ≡ version_with has_arbiter → IsWithoutClub them (state S.Store conn) →
+        IsHistory (version_with has_arbiter) (version_with has_arbiter) them [] (state S.Store club.connection)) }
     ensures behind_fault { IfErr result (λ u. HasCleanDisk (state S.Store u.conn) → (them : _) →
-        IsWithoutClub them (state S.Store conn) → (u.fault ≡ OpenFault.Store) × ((db : _) →
-        (state S.Store u.conn).may_leave db → LeavesNoClub them db ⊎
-        IsReachable Current Current them [] db)) }
+        them.version ≡ version_with has_arbiter → IsWithoutClub them (state S.Store conn) →
+        (u.fault ≡ OpenFault.Store) × ((db : _) → (state S.Store u.conn).may_leave db → LeavesNoClub them db ⊎
+        IsReachable (version_with has_arbiter) (version_with has_arbiter) them [] db)) }
     ensures stays { IfErr result (λ u. HasCleanDisk (state S.Store u.conn) →
-        HasTables First (state S.Store conn).now.schema →
+        HasTables V1 (state S.Store conn).now.schema →
         KeepsMay (state S.Store conn) (state S.Store u.conn)) }
     ensures refused { IfErr result (λ u. HasCleanDisk (state S.Store u.conn) → u.fault ≡ OpenFault.Foreign → KeepsMay
         (state S.Store conn) (state S.Store u.conn)) }
     ensures known { IfErr result (λ u. doubt (state S.Store conn).is_clean ≤ doubt (state S.Store u.conn).is_clean) }
 {
     let mut conn = conn;
-    match create_tables(&mut conn) {
+    match create_tables(&mut conn, version_of(has_arbiter)) {
         Ok(()) => Ok(Club {
             connection: conn,
+            has_arbiter,
             needs_reopening: false,
         }),
         Err(error) => Err(Unopened {
@@ -135,8 +183,8 @@ pub fn create<S: Alter>(_alloc: Global, conn: Connection<S>) -> Result<Club<S>, 
     }
 }
 
-/// Opens the club of schema 2 in the connection's database, after checking every row (`check_database`). Changes
-/// nothing.
+/// Opens the club of schema 2 or schema 3 in the connection's database, after checking every row (`check_database`).
+/// Changes nothing.
 ///
 /// # Errors
 ///
@@ -149,44 +197,52 @@ pub fn create<S: Alter>(_alloc: Global, conn: Connection<S>) -> Result<Club<S>, 
 pub fn adopt<S: Alter>(alloc: Global, conn: Connection<S>) -> Result<Club<S>, Unopened<S>>
     requires { conn.in_transaction ≡ false }
     ensures ready { IfOk result (λ club. club.needs_reopening ≡ false) }
-    ensures found { IfOk result (λ club. HasCleanDisk (state S.Store club.connection) → IsOpened
-        (state S.Store conn) → (s : _) × IsClub s × IsExactly (tables s) (state S.Store club.connection)) }
+    ensures found { IfOk result (λ club. HasCleanDisk (state S.Store club.connection) →
+        IsOpenedAt (version_with club.has_arbiter) (state S.Store conn) →
+        (s : _) × IsClubOf (version_with club.has_arbiter) s × IsExactly (version_with club.has_arbiter) (tables s)
+        (state S.Store club.connection)) }
     ensures unchanged { IfOk result (λ club. HasCleanDisk (state S.Store club.connection) →
-        HasClubTables (state S.Store conn).now.schema →
-        HasTablesOf Current (state S.Store conn).now.schema × IsUnchanged (state S.Store conn)
+        HasToldTables (state S.Store conn).now →
+        HasTablesOf (version_with club.has_arbiter) (state S.Store conn).now.schema × IsUnchanged (state S.Store conn)
         (state S.Store club.connection) × KeepsMay (state S.Store conn) (state S.Store club.connection)) }
     ensures held { IfOk result (λ club. HasCleanDisk (state S.Store club.connection) →
-        HasClubTables (state S.Store conn).now.schema → IsDatabase (state S.Store conn).now →
-        (s : _) × IsClub s × HasClub Current (state S.Store club.connection).now s) }
+        HasToldTables (state S.Store conn).now → IsDatabase (state S.Store conn).now →
+        (s : _) × IsClubOf (version_with club.has_arbiter) s ×
+        HasClub (version_with club.has_arbiter) (state S.Store club.connection).now s) }
     ensures clean { IfOk result (λ club. doubt (state S.Store conn).is_clean ≤ doubt
         (state S.Store club.connection).is_clean) }
     // The schema is equivalent to a club's, whatever `CREATE` statements made it.
-    ensures shape { IfOk result (λ club. is_of_club Current (state S.Store conn).now.schema ≡ true) }
+    ensures shape { IfOk result (λ club. is_of_club (version_with club.has_arbiter) (state S.Store conn).now.schema ≡
+        true) }
     // Whatever tables there are.
     ensures kept { IfOk result (λ club. Reads true (state S.Store conn) (state S.Store club.connection)) }
+    // The club of a legal state has an arbiter just where the state has one.
+    ensures standing { IfOk result (λ club. HasCleanDisk (state S.Store club.connection) → (s : _) → IsClub s →
+        HoldsRows (version_of s) (tables s) (state S.Store conn).now → club.has_arbiter ≡ s.has_arbiter) }
     ensures idle { IfErr result (λ u. u.conn.in_transaction ≡ false) }
     ensures reason_is_right { IfErr result (λ u. HasCleanDisk (state S.Store u.conn) →
-        HasClubTables (state S.Store conn).now.schema → IsRightFault Current (state S.Store conn).now u.fault) }
+        HasToldTables (state S.Store conn).now → IsRightFault V2 (state S.Store conn).now u.fault) }
     ensures first_damaged { IfErr result (λ u. HasCleanDisk (state S.Store u.conn) →
-        HasClubTables (state S.Store conn).now.schema → NamesFirstDamaged (state S.Store conn).now u.fault) }
+        HasToldTables (state S.Store conn).now → NamesFirstDamaged (state S.Store conn).now u.fault) }
     ensures older { IfOk result (λ club. HasCleanDisk (state S.Store club.connection) → (them : _) (s : _) →
-        IsFirstClub s → them.version ≡ Current →
-        ¬ HoldsInVersion First them (first_tables s) (state S.Store conn)) }
+        IsFirstClub s → IsServed them.version →
+        ¬ HoldsInVersion V1 them (first_tables s) (state S.Store conn)) }
     ensures first { IfErr result (λ u. HasCleanDisk (state S.Store u.conn) → (them : _) (s : _) → IsFirstClub s →
-        them.version ≡ Current → HoldsInVersion First them (first_tables s) (state S.Store conn) →
-        is_of_club First (state S.Store conn).now.schema ≡ true → (u.fault ≡ OpenFault.Schema (pos 1))
+        IsServed them.version → HoldsInVersion V1 them (first_tables s) (state S.Store conn) →
+        is_of_club V1 (state S.Store conn).now.schema ≡ true → (u.fault ≡ OpenFault.Schema (pos 1))
         ⊎ ((u.fault ≡ OpenFault.Store) ⊎ (u.fault ≡ OpenFault.Memory))) }
     // A legal club, alone or beside foreign tables, is accepted.
     ensures accepts_sound { IfErr result (λ u. HasCleanDisk (state S.Store u.conn) → (s : _) → IsClub s →
-        HoldsRows Current (tables s) (state S.Store conn).now →
-        is_of_club Current (state S.Store conn).now.schema ≡ true →
+        HoldsRows (version_of s) (tables s) (state S.Store conn).now →
+        is_of_club (version_of s) (state S.Store conn).now.schema ≡ true →
         (u.fault ≡ OpenFault.Store) ⊎ (u.fault ≡ OpenFault.Memory)) }
     ensures reads { IfErr result (λ u. OnlyReads (state S.Store conn) (state S.Store u.conn)) }
 {
     let mut conn = conn;
     match check_database(alloc, &mut conn) {
-        Ok(()) => Ok(Club {
+        Ok(version) => Ok(Club {
             connection: conn,
+            has_arbiter: is_third(version),
             needs_reopening: false,
         }),
         Err(fault) => Err(Unopened { fault, conn }),
@@ -201,6 +257,7 @@ impl<S: Alter> Club<S> {
     {
         let Club {
             connection,
+            has_arbiter: _,
             needs_reopening: _,
         } = self;
         connection
@@ -211,22 +268,29 @@ impl<S: Alter> Club<S> {
         ensures clean { doubt (state S.Store self.old.connection).is_clean ≤ doubt
             (state S.Store self.new.connection).is_clean }
         ensures shut { self.old.needs_reopening ≡ true → (result ≡ Err StoreFault.Reopen) × (self.new ≡ self.old) }
+        ensures same_schema { self.new.has_arbiter ≡ self.old.has_arbiter }
         ensures stays_open { OnOk result (self.new.needs_reopening ≡ false) }
         ensures ends { OnErr result (self.new.needs_reopening ≡ true) }
         ensures possible_faults { IfErr result (λ fault. self.old.needs_reopening ≡ false → fault ≡ StoreFault.Store) }
-        ensures stored { HasCleanDisk (state S.Store self.new.connection) → OnOk result ((them : _) (content : _) →
-            them.version ≡ Current → HoldsClubAmong them content (state S.Store self.old.connection) →
-            HoldsClubAmong them (changed changes.now content) (state S.Store self.new.connection)) }
+        ensures stored { HasCleanDisk (state S.Store self.new.connection) → OnOk result (
+            FitsVersion (version_with self.old.has_arbiter) changes.now → (them : _) (content : _) →
+            them.version ≡ version_with self.old.has_arbiter →
+            HoldsClubAmong them content (state S.Store self.old.connection) →
+            HoldsClubAmong them (changed (version_with self.old.has_arbiter) changes.now content)
+            (state S.Store self.new.connection)) }
         ensures fault { HasCleanDisk (state S.Store self.new.connection) →
-            OnErr result (self.old.needs_reopening ≡ false → (them : _) (content : _) →
-            them.version ≡ Current → HoldsClubAmong them content (state S.Store self.old.connection) → (db : _) →
-            (state S.Store self.new.connection).may_leave db →
-            LeavesBeside them content db ⊎ LeavesBeside them (changed changes.now content) db) }
+            OnErr result (self.old.needs_reopening ≡ false →
+            FitsVersion (version_with self.old.has_arbiter) changes.now → (them : _) (content : _) →
+            them.version ≡ version_with self.old.has_arbiter →
+            HoldsClubAmong them content (state S.Store self.old.connection) → (db : _) →
+            (state S.Store self.new.connection).may_leave db → LeavesBeside them content db ⊎
+            LeavesBeside them (changed (version_with self.old.has_arbiter) changes.now content) db) }
     {
         if self.needs_reopening {
             return Err(StoreFault::Reopen);
         }
-        match commit_changes(&mut self.connection, changes) {
+        let version = version_of(self.has_arbiter);
+        match commit_changes(&mut self.connection, version, changes) {
             Ok(()) => Ok(()),
             Err(_) => {
                 self.needs_reopening = true;
@@ -246,10 +310,14 @@ impl<S: Alter> Club<S> {
     ///
     /// After any of these every later call returns `Reopen`.
     ///
+    /// - `StoreFault::Schema(2)`: a club without an arbiter cannot record the command; nothing was done, without a call
+    ///   of the database, and the club stays open.
+    ///
     /// # Guarantees
     ///
     /// `answer`, `step`: the outcome and the new state are those of the club's specification. `fault`, `after_crash`:
-    /// after an error or a crash the file holds the state before or after the command. The tables stay in schema 2.
+    /// after an error or a crash the file holds the state before or after the command. `schema`: only an arbiter's
+    /// command to a club without an arbiter is `Schema(2)`, and changes nothing. The tables stay in their schema.
     pub fn apply(
         &mut self,
         alloc: Global,
@@ -258,33 +326,41 @@ impl<S: Alter> Club<S> {
         moment: Moment,
     ) -> Result<Outcome, StoreFault>
         ensures shut { self.old.needs_reopening ≡ true → (result ≡ Err StoreFault.Reopen) × (self.new ≡ self.old) }
+        ensures same_schema { self.new.has_arbiter ≡ self.old.has_arbiter }
         ensures stays_open { OnOk result (self.new.needs_reopening ≡ false) }
-        ensures ends { OnErr result (self.new.needs_reopening ≡ true) }
+        ensures ends { IfErr result (λ fault. fault ≢ StoreFault.Schema (pos 2) → self.new.needs_reopening ≡ true) }
         ensures possible_faults { IfErr result (λ fault. self.old.needs_reopening ≡ false →
-            (fault ≡ StoreFault.Store) ⊎ (fault ≡ StoreFault.Memory)) }
+            (fault ≡ StoreFault.Store) ⊎ ((fault ≡ StoreFault.Memory) ⊎ (fault ≡ StoreFault.Schema (pos 2)))) }
+        ensures schema { self.old.needs_reopening ≡ false → self.old.has_arbiter ≡ false →
+            needs_arbiter (command_of command.now) ≡ true →
+            (result ≡ Err (StoreFault.Schema (pos 2))) × (self.new ≡ self.old) }
+        ensures other_schema { result ≡ Err (StoreFault.Schema (pos 2)) → (self.old.has_arbiter ≡ false) ×
+            (needs_arbiter (command_of command.now) ≡ true) }
         ensures clean { doubt (state S.Store self.old.connection).is_clean ≤ doubt
             (state S.Store self.new.connection).is_clean }
         ensures answer { HasCleanDisk (state S.Store self.new.connection) → IfOk result (λ outcome. (s : ClubState) →
-            IsClub s → HasRows (tables s) (state S.Store self.old.connection) →
+            Asks self.old.has_arbiter (state S.Store self.old.connection) s →
             outcome_of outcome ≡ answered (club_step s (request who.now command.now moment))) }
         ensures step { HasCleanDisk (state S.Store self.new.connection) → OnOk result ((them : _) (s : ClubState) →
-            IsClub s → them.version ≡ Current → HoldsClubAmong them (tables s) (state S.Store self.old.connection) →
+            Serves self.old.has_arbiter (state S.Store self.old.connection) them s →
             HoldsClubAmong them (tables (club_next s (request who.now command.now moment)))
             (state S.Store self.new.connection)) }
         ensures fault { HasCleanDisk (state S.Store self.new.connection) →
-            OnErr result (self.old.needs_reopening ≡ false → (them : _) (s : ClubState) → IsClub s →
-            them.version ≡ Current → HoldsClubAmong them (tables s) (state S.Store self.old.connection) →
+            OnErr result (self.old.needs_reopening ≡ false → (them : _) (s : ClubState) →
+            Serves self.old.has_arbiter (state S.Store self.old.connection) them s →
             (db : _) → (state S.Store self.new.connection).may_leave db → LeavesBeside them (tables s) db ⊎
             LeavesBeside them (tables (club_next s (request who.now command.now moment))) db) }
         ensures stands { HasCleanDisk (state S.Store self.new.connection) → IfOk result (λ outcome.
             (from : _) (them : _) (sessions : _) →
-            IsHistory from Current them sessions (state S.Store self.old.connection) → IsHistory from Current them
+            IsHistory from (version_with self.old.has_arbiter) them sessions (state S.Store self.old.connection) →
+            IsHistory from (version_with self.old.has_arbiter) them
             (sessions ++ answered_session (request who.now command.now moment) outcome ∷ [])
             (state S.Store self.new.connection)) }
         ensures after_crash { HasCleanDisk (state S.Store self.new.connection) →
             OnErr result (self.old.needs_reopening ≡ false → (from : _) (them : _) (sessions : _) →
-            IsHistory from Current them sessions (state S.Store self.old.connection) →
-            (db : _) → (state S.Store self.new.connection).may_leave db → IsReachable from Current them
+            IsHistory from (version_with self.old.has_arbiter) them sessions (state S.Store self.old.connection) →
+            (db : _) → (state S.Store self.new.connection).may_leave db →
+            IsReachable from (version_with self.old.has_arbiter) them
             (sessions ++ cut_session (request who.now command.now moment) ∷ []) db) }
         ensures unchanged { HasCleanDisk (state S.Store self.new.connection) → IfOk result (λ outcome.
             ¬ IsAccepted outcome → KeepsContent (state S.Store self.old.connection)
@@ -293,8 +369,19 @@ impl<S: Alter> Club<S> {
         if self.needs_reopening {
             return Err(StoreFault::Reopen);
         }
+        if lacks_arbiter(self.has_arbiter, command) {
+            return Err(StoreFault::Schema(2));
+        }
         let _within = moment.seconds();
-        let decided = match decide_request(alloc, &mut self.connection, who, command, moment) {
+        let version = version_of(self.has_arbiter);
+        let decided = match decide_request(
+            alloc,
+            version,
+            &mut self.connection,
+            who,
+            command,
+            moment,
+        ) {
             Ok(decided) => decided,
             Err(fault) => {
                 self.needs_reopening = true;

@@ -13,9 +13,11 @@ pub enum StoreFault {
     Reopen,
     /// Out of memory.
     Memory,
+    /// Only a club with an arbiter, of schema 3, can record the command. Nothing was done, and the club stays open.
+    Schema(i64),
 }
 
-/// Writes the number and the name: `73 Store`.
+/// Writes the number and the name: `73 Store`; with the schema of the club `71 Schema 2`.
 impl fmt::Display for StoreFault {
     ghost use Rattle.std.specs.Prelude.{Some};
     ghost use Rattle.store.specs.FaultText.{store_fault_text};
@@ -27,6 +29,7 @@ impl fmt::Display for StoreFault {
             StoreFault::Store => f.write_str("73 Store"),
             StoreFault::Reopen => f.write_str("74 Reopen"),
             StoreFault::Memory => f.write_str("75 Memory"),
+            StoreFault::Schema(schema) => write!(f, "71 Schema {schema}"),
         }
     }
 }

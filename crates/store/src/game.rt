@@ -14,7 +14,7 @@ ghost use Rattle.club_core.specs.internal.View.{IsConcluded, IsDecision};
 ghost use Rattle.club_rows.specs.internal.Replay.{terms_given};
 ghost use Rattle.sqlite.specs.State.{HasCleanDisk};
 ghost use Rattle.sqlite.specs.Held.{state};
-ghost use Rattle.store_tables.specs.Over.{HasRows};
+ghost use Rattle.store_tables.specs.internal.Over.{HasRows};
 ghost use Rattle.store_tables.specs.Contents.{Content};
 ghost use Rattle.store_tables.specs.Reading.{Reads};
 ghost use Rattle.store_tables.specs.Names.{tree_of};
@@ -37,6 +37,7 @@ use club_requests::{Caller, GameCommand, OnGame, Outcome};
 use club_rules::Rules;
 use sqlite::{Alter, Connection};
 use std::alloc::Global;
+use store_tables::Version;
 
 // A decision with the end and result of the game, and the rows of positions and scores that follow from it.
 #[derive(Drop)]
@@ -135,6 +136,7 @@ impl Decide for OnGame {
     fn decide<S: Alter>(
         &self,
         alloc: Global,
+        _version: Version,
         conn: &mut Connection<S>,
         caller: Caller,
         moment: Moment,

@@ -12,7 +12,7 @@ ghost use Rattle.club_core.specs.Game.{Game};
 ghost use Rattle.club_core.specs.Imports.{imported};
 ghost use Rattle.club_core.specs.State.{import_record, place, terms_at};
 ghost use Rattle.club_rows.specs.Club.{tables};
-ghost use Rattle.store_tables.specs.Over.{HasRows};
+ghost use Rattle.store_tables.specs.internal.Over.{HasRows};
 ghost use Rattle.store_tables.specs.Contents.{Content};
 ghost use Rattle.store_tables.specs.Reading.{Reads};
 ghost use Rattle.store_tables.specs.Names.{tree_of};
@@ -35,7 +35,7 @@ use club_requests::{Answer, Caller, Import, Outcome};
 use club_rules::{GameKind, Records, Rules};
 use sqlite::{Alter, Connection};
 use std::alloc::Global;
-use store_tables::Changes;
+use store_tables::{Changes, Version};
 
 // The rows of an imported game, with those of its players' scores.
 fn added<R: Rules, S: Alter>(
@@ -127,11 +127,12 @@ impl Decide for Import {
     fn decide<S: Alter>(
         &self,
         alloc: Global,
+        version: Version,
         conn: &mut Connection<S>,
         caller: Caller,
         moment: Moment,
     ) -> Result<CommandEffect, LookupFault> {
-        let known = read_known(alloc, conn, self.key.as_str())?;
+        let known = read_known(alloc, version, conn, self.key.as_str())?;
         let kind = event_kind(known.events.as_slice(), self.event.as_str());
         by_kind!(
             kind,

@@ -4,12 +4,12 @@
 //!
 //! # Guarantees
 //!
-//! - `create` (`stored`, `begins`, `fault`, `after_crash`): in an empty database the tables become those of the
-//!   opening state. Failed, a crash leaves the empty database or those tables.
+//! - `create` (`stored`, `schema`, `begins`, `fault`, `after_crash`): in an empty database the tables become those of
+//!   the opening state, with an arbiter or without one. Failed, a crash leaves the empty database or those tables.
 //! - `create` (`behind`, `behind_fault`, `stays`): the same beside foreign tables with room for a club. A club's
 //!   database is unchanged.
-//! - `adopt` (`found`, `held`, `kept`): an accepted database holds exactly a legal club, and opening changes nothing
-//!   that was committed.
+//! - `adopt` (`found`, `held`, `kept`): an accepted database holds exactly a legal club of schema 2 or schema 3, and
+//!   opening changes nothing that was committed.
 //! - `adopt` (`reason_is_right`, `first_damaged`): the reason of a refusal is true. 72 names the first wrong table;
 //!   71 means another schema number; 70 means other tables.
 //! - `adopt` (`accepts_sound`, `first`): a legal club meets 73 and 75 only; one of schema 1 is refused by its number.
@@ -17,7 +17,9 @@
 //!   those of its next state. If a call fails, a crash leaves the tables before or after.
 //! - `Club::apply` (`possible_faults`, `shut`, `unchanged`): a failed call answers 73 or 75, and each later one 74. A
 //!   request that is not accepted changes nothing.
-//! - `requests_keep_clubs`: a request leaves a legal club legal.
+//! - `Club::apply` (`schema`, `other_schema`): an arbiter's command to a club of schema 2 answers 71, changes nothing,
+//!   and leaves the club open. No other command does.
+//! - `requests_keep_clubs`: a request whose command the club takes leaves a legal club legal.
 //! - `Club::ask` (`shown`, `begun`, `output`): a query is answered as `club_answers` says. After a failed writer the
 //!   club stays open.
 //! - `Club::member_by_key` (`held`): the name of the member who has a key.
@@ -28,10 +30,10 @@
 //!   first k accepted requests of each session lead. Here k covers every acknowledged request, and at most one more.
 //! - `resume` (`kept`), `crash_keeps_history`, `histories_begin_at_opening`, `opened_history_holds`: the same over any
 //!   number of openings. A session whose opening fails adds nothing.
-//! - `upgrade` (`done`, `fault`, `history`, `after_crash`): a legal club of schema 1 becomes one of schema 2 with the
-//!   same state. Failed, a crash leaves the tables of either schema.
-//! - `upgrade` (`already`, `unchanged`, `kept`, `accepts_sound`, `reason_is_right`, `shape`): schema 2 and a refused
-//!   file are unchanged, and the reason of a refusal is true.
+//! - `upgrade` (`done`, `fault`, `history`, `after_crash`): a legal club of an earlier schema becomes one of the
+//!   requested schema with the same state. Failed, a crash leaves the tables of either schema.
+//! - `upgrade` (`already`, `unchanged`, `kept`, `accepts_sound`, `reason_is_right`, `shape`): the requested schema, a
+//!   later one and a refused file are unchanged, and the reason of a refusal is true.
 //! - `Display` for `StoreFault`, `Display` for `AskFault`: a fault is written as its number and its name.
 //! - Foreign tables, indexes and views, and their rows, stay (`HoldsClubAmong`, `TakesClub`).
 #![tactic(auto)]

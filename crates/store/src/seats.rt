@@ -8,7 +8,7 @@ ghost use Rattle.club_core.specs.internal.Answer.{members_of, events_of, seating
 ghost use Rattle.club_core.specs.Seats.{seat_step};
 ghost use Rattle.club_core.specs.State.{game_under};
 ghost use Rattle.club_core.specs.State as club;
-ghost use Rattle.store_tables.specs.Over.{HasRows};
+ghost use Rattle.store_tables.specs.internal.Over.{HasRows};
 ghost use Rattle.store_tables.specs.Reading.{Reads};
 ghost use Rattle.club_rows.specs.Club.{ClubState, IsClub, tables};
 ghost use Rattle.club_changes.specs.internal.Steps.{caller_step, IsDecided};
@@ -23,7 +23,7 @@ use club_requests::{Answer, Caller, Outcome, Seat};
 use sqlite::{Alter, Connection};
 use std::alloc::Global;
 use store_sql::count;
-use store_tables::GameTableRow;
+use store_tables::{GameTableRow, Version};
 
 // The decision on a seating.
 fn decided_seating<S: Alter>(
@@ -90,12 +90,13 @@ impl Decide for Seat {
     fn decide<S: Alter>(
         &self,
         alloc: Global,
+        version: Version,
         conn: &mut Connection<S>,
         caller: Caller,
         moment: Moment,
     ) -> Result<CommandEffect, LookupFault> {
-        let members = all_members(alloc, conn)?;
-        let events = all_events(alloc, conn)?;
+        let members = all_members(alloc, version, conn)?;
+        let events = all_events(alloc, version, conn)?;
         let seating = decided_seating(alloc, conn, &members, &events, caller, self)?;
         Ok(put_seating(alloc, &events, seating, self.key.as_str(), moment)?)
     }

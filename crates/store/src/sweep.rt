@@ -6,7 +6,7 @@ ghost use Rattle.sqlite.specs.Held.{state};
 ghost use Rattle.club_core.specs.State.{sweep};
 ghost use Rattle.club_requests.specs.declared.requests.Caller.TheVariants.{Officer};
 ghost use Rattle.club_rows.specs.Club.{ClubState, IsClub, tables};
-ghost use Rattle.store_tables.specs.Over.{HasRows};
+ghost use Rattle.store_tables.specs.internal.Over.{HasRows};
 ghost use Rattle.store_tables.specs.Reading.{Reads};
 ghost use Rattle.club_changes.specs.internal.Steps.{caller_step, IsDecided};
 ghost use Rattle.club_changes.specs.internal.Whole.{IsWhole};
@@ -19,7 +19,7 @@ use club_requests::{Caller, Outcome, Refusal};
 use sqlite::{Alter, Connection};
 use std::alloc::Global;
 use store_sql::list;
-use store_tables::{GameTableRow, ScoreRow};
+use store_tables::{GameTableRow, ScoreRow, Version};
 
 // Executes a sweep for the officer.
 fn swept<S: Alter>(
@@ -48,6 +48,7 @@ impl Decide for Sweep {
     fn decide<S: Alter>(
         &self,
         alloc: Global,
+        _version: Version,
         conn: &mut Connection<S>,
         caller: Caller,
         moment: Moment,

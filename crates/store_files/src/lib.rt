@@ -11,13 +11,14 @@
 //! - `new_files_have_no_tables`: an opening of new files finds no table.
 #![tactic(auto)]
 
-ghost use Rattle.std.specs.Prelude.{◌≡◌, ◌≤◌, ◌⊎◌, ◌++◌, ◌∷◌, [], false, None, IfOk, IfErr, IfSome, map, length, take};
+ghost use Rattle.std.specs.Prelude.{◌≡◌, ◌≤◌, ◌⊎◌, ◌++◌, ◌∷◌, [], false, pos, None, IfOk, IfErr, IfSome, map, length};
+ghost use Rattle.std.specs.Prelude.{take};
 ghost use Rattle.sqlite.specs.State.{HasCleanDisk, Opens, IsLive};
 ghost use Rattle.sqlite.specs.Files.{file_state, IsNothing};
 ghost use Rattle.sqlite_wal.specs.Recovery.{Image};
 ghost use Rattle.sqlite_store.specs.FileStore.{state as store_state, view as store_view};
 ghost use Rattle.sqlite_trees.specs.View.{IsClean, doubt};
-ghost use Rattle.store_tables.specs.declared.names.Version.TheVariants.{Current};
+ghost use Rattle.store_tables.specs.Tables.{IsServed};
 ghost use Rattle.club_core.specs.Answer.{answered, outcome_of, request_of};
 ghost use Rattle.club_rows.specs.Club.{ClubState, IsClub};
 ghost use Rattle.store.specs.Runs.{club_outcomes};
@@ -89,8 +90,8 @@ pub fn serve_session<D: Disk + Drop>(
     requires { conn.in_transaction ≡ false }
     ensures clean { IfOk result (λ lived. doubt (file_state conn).is_clean ≤ doubt (store_view lived.1).is_clean) }
     // Never `Reopen`: the club was opened just now.
-    ensures possible_faults { IfOk result (λ lived. IfSome lived.0.fault (λ fault. (fault ≡ StoreFault.Store) ⊎ (fault ≡
-        StoreFault.Memory))) }
+    ensures possible_faults { IfOk result (λ lived. IfSome lived.0.fault (λ fault. (fault ≡ StoreFault.Store) ⊎
+        ((fault ≡ StoreFault.Memory) ⊎ (fault ≡ StoreFault.Schema (pos 2))))) }
     ensures within { IfOk result (λ lived. length lived.0.outcomes.items ≤ length requests.now) }
     ensures whole { IfOk result (λ lived. lived.0.fault ≡ None → length lived.0.outcomes.items ≡ length requests.now) }
     ensures outcomes { IfOk result (λ lived. IsClean (store_view lived.1) → Opens (file_state conn) →
@@ -100,7 +101,7 @@ pub fn serve_session<D: Disk + Drop>(
         (map request_of (take (length lived.0.outcomes.items) requests.now)))) }
     ensures history { IfOk result (λ lived. IsClean (store_view lived.1) → Opens (file_state conn) →
         IsLive (file_state conn) →
-        (from version : _) (them : _) (sessions : _) → them.version ≡ Current →
+        (from version : _) (them : _) (sessions : _) → IsServed them.version →
         ∥ IsReachable from version them sessions (file_state conn).committed.trees ∥₁ →
         (left : _) → (store_state lived.1).may_leave left → (found : _) → Finds left found →
         ∥ IsReachable from version them (sessions ++ session_of requests.now lived.0 ∷ []) found ∥₁) }

@@ -19,16 +19,20 @@ use Rattle.sqlite_rules.specs.Lists.{Has}
 use Rattle.sqlite_rules.proofs.ListLemmas.{all_has, some_from}
 use Rattle.store_tables.specs.Content.{AreApart, cells, same_key}
 use Rattle.sqlite.specs.State.{State}
-use Rattle.store_tables.specs.Contents.{AreStored, Content, Stores}
+use Rattle.store_tables.specs.Contents.{Content, Stores}
 use Rattle.store_tables.specs.Names.{tree_of}
-use Rattle.store_tables.specs.Over.{HasRows}
+use Rattle.store_tables.specs.Over.{HasRowsIn}
 use Rattle.store_tables.specs.Placed.{HasTableAt, club_trees}
-use Rattle.store_tables.specs.Tables.{club_schema, made_as, meta, members, events, event_rules, challenges, moves}
-use Rattle.store_tables.specs.Tables.{games, seen, scores}
+use Rattle.store_tables.specs.Tables.{challenges, closings, event_rules, events, games, keys, made_as, members, meta}
+use Rattle.store_tables.specs.Tables.{moves, rulings, scores, seen, standing}
+use Rattle.store_tables.specs.internal.Tables.{has_table}
 use Rattle.store_tables.specs.declared.names.Table as of_club
-use Rattle.store_tables.specs.declared.names.Table.TheVariants.{Challenges, Moves, Seen, Scores}
-use Rattle.store_tables.proofs.Proved.{equal_cmp, differ_ints, rows_standing, rows_stored, stored_at, same_rowid}
-use Rattle.store_tables.proofs.Proved.{unique_here}
+use Rattle.store_tables.specs.declared.names.Table.TheVariants.{Challenges, Closings, EventRules, Events, Games, Keys}
+use Rattle.store_tables.specs.declared.names.Table.TheVariants.{Members, Meta, Moves, Rulings, Scores, Seen}
+use Rattle.store_tables.specs.declared.names.Version.{Version}
+use Rattle.store_tables.proofs.Proved.{equal_cmp, differ_ints, rows_standing, same_rowid}
+use Rattle.store_tables.proofs.Proved.{unique_at}
+use Rattle.store_sql.proofs.SelectLemmas.{stored_here}
 
 -- a table's rows, of which no two have one key
 abbrev pub HaveKeys : List ℕ → List Row → Type 0
@@ -72,67 +76,81 @@ tied key rows none apart r s here there same =
     (λ differs. true≢false (sym (some_from _ rows r here (and_from _ _ same differs)) ∙ none s there)))) in
     subst (λ v. value_cmp (rowid r) v ≡ Equal) (m_is ∙ ap Int one ∙ sym n_is) (tied_itself value_cmp_total (rowid r))
 
--- No two rows of a table of a club have one key, wherever its tables stand.
-module _ (content : Content) (s : State) (k : HasRows content s) where
+-- No two rows of a table of a club of this version have one key, wherever its tables stand.
+module _ (version : Version) (content : Content) (s : State) (k : HasRowsIn version content s) where
   abbrev trees : Trees
   trees = club_trees s.now
 
-  stored : AreStored club_schema trees content
-  stored = rows_stored content s k
+  -- the table has its rows
+  here : (table : of_club.Table) → IsTrue (has_table version table) → Stores (standing table) trees content
+  here table has = stored_here version table has content s k
 
-  unique : (table : of_club.Table) (key : List ℕ)
-      → ((tree : ℕ) → slice_get (made_as table tree).uniques 0 ≡ Some key)
-      → ((tree : ℕ) → slice_index_or (made_as table tree).orders 0 plain ≡ plain) → (r : Row)
+  -- a unique key of the table is clean
+  unique : (table : of_club.Table) → IsTrue (has_table version table) → (at : ℕ) (key : List ℕ)
+      → ((tree : ℕ) → slice_get (made_as table tree).uniques at ≡ Some key)
+      → ((tree : ℕ) → slice_index_or (made_as table tree).orders at plain ≡ plain) → (r : Row)
       → Has (trees (tree_of table)) r → clashes plain key (trees (tree_of table)) r ≡ false
-  unique table key is ordered =
-      let stands = subst (λ d. HasTableAt d table) (sym k.4.now.schema) (rows_standing content s k table).0 in
-      unique_here s.now.schema s.now.trees k.4.now.sound table stands key (is stands.tree) (ordered stands.tree)
+  unique table has at key is ordered =
+      let stands = subst (λ d. HasTableAt d table) (sym k.exactly.now.schema)
+      (rows_standing version content s k table has).0 in
+      unique_at s.now.schema s.now.trees k.exactly.now.sound table stands at key (is stands.tree) (ordered stands.tree)
 
-  pub meta_keys : HaveKeys (0 ∷ []) (content 0)
-  meta_keys = keyed (meta 0) (0 ∷ []) trees content
-      (stored_at club_schema (meta 0) 0 refl trees content stored)
+  pub meta_keys : IsTrue (has_table version Meta) → HaveKeys (0 ∷ []) (content 0)
+  meta_keys has = keyed (meta 0) (0 ∷ []) trees content (here Meta has)
       (λ r s here there same. by_first (cells (meta 0) r) (cells (meta 0) s) same)
 
-  pub member_keys : HaveKeys (0 ∷ []) (content 1)
-  member_keys = keyed (members 1) (0 ∷ []) trees content
-      (stored_at club_schema (members 1) 1 refl trees content stored)
+  pub member_keys : IsTrue (has_table version Members) → HaveKeys (0 ∷ []) (content 1)
+  member_keys has = keyed (members 1) (0 ∷ []) trees content (here Members has)
       (λ r s here there same. by_first (cells (members 1) r) (cells (members 1) s) same)
 
-  pub event_keys : HaveKeys (0 ∷ []) (content 4)
-  event_keys = keyed (events 4) (0 ∷ []) trees content
-      (stored_at club_schema (events 4) 2 refl trees content stored)
+  pub event_keys : IsTrue (has_table version Events) → HaveKeys (0 ∷ []) (content 4)
+  event_keys has = keyed (events 4) (0 ∷ []) trees content (here Events has)
       (λ r s here there same. by_first (cells (events 4) r) (cells (events 4) s) same)
 
-  pub event_rule_keys : HaveKeys (0 ∷ []) (content 16)
-  event_rule_keys = keyed (event_rules 16) (0 ∷ []) trees content
-      (stored_at club_schema (event_rules 16) 8 refl trees content stored)
+  pub event_rule_keys : IsTrue (has_table version EventRules) → HaveKeys (0 ∷ []) (content 16)
+  event_rule_keys has = keyed (event_rules 16) (0 ∷ []) trees content (here EventRules has)
       (λ r s here there same. by_first (cells (event_rules 16) r) (cells (event_rules 16) s) same)
 
-  pub game_keys : HaveKeys (0 ∷ []) (content 10)
-  game_keys = keyed (games 10) (0 ∷ []) trees content
-      (stored_at club_schema (games 10) 5 refl trees content stored)
+  pub game_keys : IsTrue (has_table version Games) → HaveKeys (0 ∷ []) (content 10)
+  game_keys has = keyed (games 10) (0 ∷ []) trees content (here Games has)
       (λ r s here there same. by_first (cells (games 10) r) (cells (games 10) s) same)
 
-  pub challenge_keys : HaveKeys (0 ∷ 1 ∷ []) (content 6)
-  challenge_keys =
-      let stores = stored_at club_schema (challenges 6) 3 refl trees content stored in
+  pub closing_keys : IsTrue (has_table version Closings) → HaveKeys (0 ∷ []) (content 22)
+  closing_keys has = keyed (closings 22) (0 ∷ []) trees content (here Closings has)
+      (λ r s here there same. by_first (cells (closings 22) r) (cells (closings 22) s) same)
+
+  pub challenge_keys : IsTrue (has_table version Challenges) → HaveKeys (0 ∷ 1 ∷ []) (content 6)
+  challenge_keys has =
+      let stores = here Challenges has in
       keyed (challenges 6) (0 ∷ 1 ∷ []) trees content stores
-      (tied (1 ∷ 2 ∷ []) (trees 6) (unique Challenges (1 ∷ 2 ∷ []) (λ tree. refl) (λ tree. refl)) stores.apart)
+      (tied (1 ∷ 2 ∷ []) (trees 6) (unique Challenges has 0 (1 ∷ 2 ∷ []) (λ tree. refl) (λ tree. refl)) stores.apart)
 
-  pub move_keys : HaveKeys (0 ∷ 1 ∷ []) (content 8)
-  move_keys =
-      let stores = stored_at club_schema (moves 8) 4 refl trees content stored in
+  pub move_keys : IsTrue (has_table version Moves) → HaveKeys (0 ∷ 1 ∷ []) (content 8)
+  move_keys has =
+      let stores = here Moves has in
       keyed (moves 8) (0 ∷ 1 ∷ []) trees content stores
-      (tied (1 ∷ 2 ∷ []) (trees 8) (unique Moves (1 ∷ 2 ∷ []) (λ tree. refl) (λ tree. refl)) stores.apart)
+      (tied (1 ∷ 2 ∷ []) (trees 8) (unique Moves has 0 (1 ∷ 2 ∷ []) (λ tree. refl) (λ tree. refl)) stores.apart)
 
-  pub seen_keys : HaveKeys (0 ∷ 1 ∷ []) (content 12)
-  seen_keys =
-      let stores = stored_at club_schema (seen 12) 6 refl trees content stored in
+  pub seen_keys : IsTrue (has_table version Seen) → HaveKeys (0 ∷ 1 ∷ []) (content 12)
+  seen_keys has =
+      let stores = here Seen has in
       keyed (seen 12) (0 ∷ 1 ∷ []) trees content stores
-      (tied (1 ∷ 2 ∷ []) (trees 12) (unique Seen (1 ∷ 2 ∷ []) (λ tree. refl) (λ tree. refl)) stores.apart)
+      (tied (1 ∷ 2 ∷ []) (trees 12) (unique Seen has 0 (1 ∷ 2 ∷ []) (λ tree. refl) (λ tree. refl)) stores.apart)
 
-  pub score_keys : HaveKeys (0 ∷ 1 ∷ 2 ∷ []) (content 14)
-  score_keys =
-      let stores = stored_at club_schema (scores 14) 7 refl trees content stored in
+  pub score_keys : IsTrue (has_table version Scores) → HaveKeys (0 ∷ 1 ∷ 2 ∷ []) (content 14)
+  score_keys has =
+      let stores = here Scores has in
       keyed (scores 14) (0 ∷ 1 ∷ 2 ∷ []) trees content stores
-      (tied (1 ∷ 2 ∷ 3 ∷ []) (trees 14) (unique Scores (1 ∷ 2 ∷ 3 ∷ []) (λ tree. refl) (λ tree. refl)) stores.apart)
+      (tied (1 ∷ 2 ∷ 3 ∷ []) (trees 14) (unique Scores has 0 (1 ∷ 2 ∷ 3 ∷ []) (λ tree. refl) (λ tree. refl)) stores.apart)
+
+  pub later_key_keys : IsTrue (has_table version Keys) → HaveKeys (0 ∷ 1 ∷ []) (content 17)
+  later_key_keys has =
+      let stores = here Keys has in
+      keyed (keys 17) (0 ∷ 1 ∷ []) trees content stores
+      (tied (1 ∷ 2 ∷ []) (trees 17) (unique Keys has 1 (1 ∷ 2 ∷ []) (λ tree. refl) (λ tree. refl)) stores.apart)
+
+  pub ruling_keys : IsTrue (has_table version Rulings) → HaveKeys (0 ∷ 1 ∷ []) (content 20)
+  ruling_keys has =
+      let stores = here Rulings has in
+      keyed (rulings 20) (0 ∷ 1 ∷ []) trees content stores
+      (tied (1 ∷ 2 ∷ []) (trees 20) (unique Rulings has 0 (1 ∷ 2 ∷ []) (λ tree. refl) (λ tree. refl)) stores.apart)

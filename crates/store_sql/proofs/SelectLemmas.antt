@@ -24,8 +24,8 @@ use Rattle.sqlite.specs.declared.error.Error.{Error}
 use Rattle.sqlite.specs.State.{FailsToQuery, CommitsShowing, IsRolledBack, QueriesRow}
 use Rattle.sqlite.specs.declared.error.Error.TheVariants.{QueryReturnedNoRows}
 use Rattle.sqlite.proofs.Callers.{IsPlain, reads_as}
-use Rattle.store_tables.specs.Over.{HasRows}
-use Rattle.store_tables.specs.Placed.{HasTableAt, club_trees}
+use Rattle.store_tables.specs.Over.{HasRowsIn}
+use Rattle.store_tables.specs.Placed.{HasTableAt, club_trees, tables_of}
 use Rattle.store_tables.specs.internal.Placed.{AsksAnywhere, LooksUpAnywhere}
 use Rattle.store_tables.specs.Changes.{HaveSame}
 use Rattle.store_tables.specs.Content.{Keeps, cells}
@@ -34,14 +34,16 @@ use Rattle.store_tables.specs.internal.Contents.{AreThose}
 use Rattle.store_tables.specs.internal.Queries.{AreShownBy, Finds, IsSelect, by_others}
 use Rattle.store_tables.specs.Reading.{KeepsContent, KeepsMay, Reads}
 use Rattle.store_tables.specs.internal.Reading.{by_columns, by_first_falling, ReturnsRows, TellsIds, IsNoInput}
-use Rattle.store_tables.specs.declared.names.Version.TheVariants.{Current}
+use Rattle.store_tables.specs.declared.names.Version.{Version}
+use Rattle.store_tables.specs.declared.names.Version.TheVariants.{V3}
 use Rattle.store_tables.proofs.Proved.{select_unchanged, only_reads, reads_by, unchanged_exactly, tells, tells_ids}
 use Rattle.store_tables.proofs.Proved.{has_index, no_missing, only_left, row_of_whole, select_fails}
 use Rattle.store_tables.proofs.Proved.{finds, no_input, ids_of, each_shown, one_list, sorted_rows, has_map}
 use Rattle.store_tables.proofs.Proved.{in_order as in_order_by}
 use Rattle.store_tables.proofs.Proved.{places_rise, same_length, alone_takes, in_all, rows_standing, rows_stored}
-use Rattle.store_tables.proofs.Proved.{cells_are, told_here, tree_is, trees_here}
-use Rattle.store_tables.specs.Tables.{club_schema, made_as, standing}
+use Rattle.store_tables.proofs.Proved.{among_tables, cells_are, tables_are, told_here, tree_is, trees_here}
+use Rattle.store_tables.specs.Tables.{made_as, schema_of, standing}
+use Rattle.store_tables.specs.internal.Tables.{club_schema, has_table}
 use Rattle.store_tables.specs.internal.Texts.{all_text, ids_text, by_column_text, by_first_text, last_text}
 use Rattle.store_tables.specs.internal.Texts.{question_text}
 use Rattle.store_tables.specs.Names.{in_order, tree_of}
@@ -197,29 +199,33 @@ pub moved_to : {table : Table} (which : of_club.Table) → table ≡ standing wh
 moved_to which is tree = ap (λ (t : Table). record t { tree = tree }) is ∙ same_but_tree which tree
 
 pub standing_alone : (table : of_club.Table) → HasTableAt club_schema table
-standing_alone table = all_has (HasTableAt club_schema) in_order table (alone_takes Current).club (in_all table)
+standing_alone table = all_has (HasTableAt club_schema) in_order table (alone_takes V3).club (in_all table)
 
 -- a table of the club has the rows of the club
-stored_here : (table : of_club.Table) (content : Content) (s : State) → HasRows content s
-    → Stores (standing table) (club_trees s.now) content
-stored_here table content s k =
-    all_has (λ t. Stores t (club_trees s.now) content) club_schema.tables (standing table) (rows_stored content s k)
-    (has_map standing in_order table (in_all table))
+pub stored_here : (version : Version) (table : of_club.Table) → IsTrue (has_table version table) → (content : Content)
+    (s : State) → HasRowsIn version content s → Stores (standing table) (club_trees s.now) content
+stored_here version table there content s k =
+    all_has (λ t. Stores t (club_trees s.now) content) (schema_of version).tables (standing table)
+    (rows_stored version content s k)
+    (subst (λ l. Has l (standing table)) (tables_are version)
+    (has_map standing (tables_of version) table (among_tables version table there)))
 
 -- the rows that a text finds of a table where it stands are those of the club
-found_here : (table : of_club.Table) (content : Content) (old new : State) (k : HasRows content old) (place : ℕ)
+found_here : (version : Version) (table : of_club.Table) (has : IsTrue (has_table version table)) (content : Content)
+    (old new : State) (k : HasRowsIn version content old) (place : ℕ)
     (key : List ℕ) (wanted params given : Row) (text sql : List ℕ) (cmp : Row → Row → Ordering)
-    → Finds k.0 (made_as table (rows_standing content old k table).0.tree) place key wanted params text cmp
-    → sql ≡ text → given ≡ params → Survives old new (CommitsShowing sql given old) → HasCleanDisk new
+    → Finds k.schema (made_as table (rows_standing version content old k table has).0.tree) place key wanted params text
+    cmp → sql ≡ text → given ≡ params → Survives old new (CommitsShowing sql given old) → HasCleanDisk new
     → (rows : List Row) → Shown sql given old new rows
     → AreThose key wanted (content (standing table).tree) rows × IsSorted cmp rows
-found_here table content old new k place key wanted params given text sql cmp by is same survives clean rows shown =
-    let (stands, are) = rows_standing content old k table in
-    let it = finds k.0 (made_as table stands.tree) place key wanted params text cmp by old new rows
+found_here version table has content old new k place key wanted params given text sql cmp by is same survives clean rows
+    shown =
+    let (stands, are) = rows_standing version content old k table has in
+    let it = finds k.schema (made_as table stands.tree) place key wanted params text cmp by old new rows
     (subst₂ (λ s p. Survives old new (CommitsShowing s p old)) is same survives) clean
-    (subst₂ (λ s p. Shown s p old new rows) is same shown) k.1 k.4 in (
+    (subst₂ (λ s p. Shown s p old new rows) is same shown) k.whole k.exactly in (
       subst (λ l. AreThose key wanted l rows)
-          (ap k.1 (tree_is table stands.tree) ∙ are ∙ ap content (sym (tree_is table (tree_of table)))) it.0,
+          (ap k.whole (tree_is table stands.tree) ∙ are ∙ ap content (sym (tree_is table (tree_of table)))) it.0,
       it.1,
     )
 
@@ -242,15 +248,15 @@ module _ {X : Type 0} {table : of_club.Table} {key : List ℕ} {wanted params gi
       let alone = standing_alone table in
       select_reads (asks club_schema alone).is_select text (asked alone.tree) given old new items r
 
-  pub question_rows : Survives old new (CommitsShowing text given old) → HasCleanDisk new
+  pub question_rows : (version : Version) → IsTrue (has_table version table) → Survives old new (CommitsShowing text given old) → HasCleanDisk new
       → IfOk r (λ x. Shown text given old new (items x))
-      → IfOk r (λ x. (content : Content) → HasRows content old
+      → IfOk r (λ x. (content : Content) → HasRowsIn version content old
       → AreThose key wanted (content (standing table).tree) (items x))
-  question_rows survives clean ok =
+  question_rows version there survives clean ok =
       IfOk-weaker r _ _ (λ x shown content k.
-      let stands = (rows_standing content old k table).0 in
-      (found_here table content old new k stands.place key wanted params given _ text (λ x y. Equal)
-      (asks k.0 stands).finds (asked stands.tree) same survives clean (items x) shown).0) ok
+      let stands = (rows_standing version content old k table there).0 in
+      (found_here version table there content old new k stands.place key wanted params given _ text (λ x y. Equal)
+      (asks k.schema stands).finds (asked stands.tree) same survives clean (items x) shown).0) ok
 
 -- ---- a question for the rows that have the wanted value in a column
 
@@ -271,15 +277,15 @@ module _ {X : Type 0} {table : of_club.Table} {width at : ℕ} {wanted params gi
       let alone = standing_alone table in
       select_reads (looks_up club_schema alone).is_select lookup_text (looked_up alone.tree) given old new items r
 
-  pub lookup_rows : Survives old new (CommitsShowing lookup_text given old) → HasCleanDisk new
+  pub lookup_rows : (version : Version) → IsTrue (has_table version table) → Survives old new (CommitsShowing lookup_text given old) → HasCleanDisk new
       → IfOk r (λ x. Shown lookup_text given old new (items x))
-      → IfOk r (λ x. (content : Content) → HasRows content old
+      → IfOk r (λ x. (content : Content) → HasRowsIn version content old
       → AreThose (at ∷ []) wanted (content (standing table).tree) (items x) × IsSorted (by_columns width) (items x))
-  lookup_rows survives clean ok =
+  lookup_rows version there survives clean ok =
       IfOk-weaker r _ _ (λ x shown content k.
-      let stands = (rows_standing content old k table).0 in
-      found_here table content old new k stands.place (at ∷ []) wanted params given _ lookup_text (by_columns width)
-      (looks_up k.0 stands).finds (looked_up stands.tree) same survives clean (items x) shown) ok
+      let stands = (rows_standing version content old k table there).0 in
+      found_here version table there content old new k stands.place (at ∷ []) wanted params given _ lookup_text (by_columns width)
+      (looks_up k.schema stands).finds (looked_up stands.tree) same survives clean (items x) shown) ok
 
 -- a call that failed for another cause than the types of its rows
 pub failed_read : (e : ReadFault) (old new : State) → e ≢ WrongType → Reads false old new
@@ -361,25 +367,28 @@ module _ {which : of_club.Table} {table : Table} {width : ℕ} (is_table : table
         }
 
   -- the rows of a content
-  module _ (content : Content) (k : HasRows content old) where
+  module _ {since : Version} (has : IsTrue (has_table since which)) (content : Content)
+      (k : HasRowsIn since content old) where
     stored : Stores table (club_trees old.now) content
-    stored = subst (λ t. Stores t (club_trees old.now) content) (sym is_table) (stored_here which content old k)
+    stored = subst (λ t. Stores t (club_trees old.now) content) (sym is_table)
+        (stored_here since which has content old k)
 
     -- the table stands in the schema that the connection has
     stands_now : HasTableAt old.now.schema which
-    stands_now = subst (λ s. HasTableAt s which) (sym k.4.now.schema) (rows_standing content old k which).0
+    stands_now = subst (λ s. HasTableAt s which) (sym k.exactly.now.schema)
+        (rows_standing since content old k which has).0
 
     pub some_found : {sql : List ℕ} → sql ≡ by_first_text table → (n : ℤ) (params : Row) → params ≡ Int n ∷ []
         → Survives old new (CommitsShowing sql params old) → HasCleanDisk new
         → (rows : List Row) → Shown sql params old new rows
         → AreThose (0 ∷ []) (Int n ∷ []) (content table.tree) rows × IsSorted (by_others width) rows
     some_found text n params given survives clean rows shown =
-        let stands = (rows_standing content old k which).0 in
-        let is = read k.0 stands in
+        let stands = (rows_standing since content old k which has).0 in
+        let is = read k.schema stands in
         subst
         (λ (t : Table). AreThose (0 ∷ []) (Int n ∷ []) (content t.tree) rows × IsSorted (by_others width) rows)
         (sym is_table)
-        (found_here which content old new k is.place (0 ∷ []) (Int n ∷ []) (Int n ∷ []) params _ _ (by_others width)
+        (found_here since which has content old new k is.place (0 ∷ []) (Int n ∷ []) (Int n ∷ []) params _ _ (by_others width)
         (is.some n) (text ∙ ap by_first_text (moved_to which is_table stands.tree)) given survives clean rows shown)
 
     -- the rows by their first column, the greatest first
@@ -387,10 +396,10 @@ module _ {which : of_club.Table} {table : Table} {width : ℕ} (is_table : table
         → HasCleanDisk new → (rows : List Row) → Shown sql [] old new rows
         → AreThose [] [] (content table.tree) rows × IsSorted by_first_falling rows
     falling_found text survives clean rows shown =
-        let stands = (rows_standing content old k which).0 in
-        let is = read k.0 stands in
+        let stands = (rows_standing since content old k which has).0 in
+        let is = read k.schema stands in
         subst (λ (t : Table). AreThose [] [] (content t.tree) rows × IsSorted by_first_falling rows) (sym is_table)
-        (found_here which content old new k is.place [] [] [] [] _ _ by_first_falling is.last
+        (found_here since which has content old new k is.place [] [] [] [] _ _ by_first_falling is.last
         (text ∙ ap last_text (moved_to which is_table stands.tree)) refl survives clean rows shown)
 
     -- the last row, where one is given

@@ -1,4 +1,4 @@
--- Whether the table of the rules of events stands, by an answer to a SELECT from it.
+-- Whether a table stands, by an answer to a SELECT from it.
 use Rattle.std.proofs.Common.{◌≡◌, ℕ, ◌||◌, false, true≢false, List, Option, None, refl, sym, ap, ◌∙◌, inl, inr}
 use Rattle.std.proofs.Common.{subst}
 use Rattle.std.specs.Prelude.{is_ok, is_some}
@@ -11,14 +11,27 @@ use Rattle.sqlite_schema.specs.Names.{table_named}
 use Rattle.store_tables.specs.Names.{table_name}
 use Rattle.store_tables.specs.internal.Queries.{IsSelect}
 use Rattle.store_tables.specs.internal.Reading.{IsNoInput}
-use Rattle.store_tables.specs.Tables.{standing}
+use Rattle.store_tables.specs.Tables.{made_as, standing}
+use Rattle.store_tables.specs.internal.Tables.{club_schema}
 use Rattle.store_tables.specs.internal.Texts.{by_first_text}
-use Rattle.store_tables.specs.declared.names.Table.TheVariants.{EventRules}
-use Rattle.store_tables.proofs.Proved.{rules_missing, select_plain}
+use Rattle.store_tables.specs.declared.names.Table as of_club
+use Rattle.store_tables.proofs.Proved.{placed_shown, select_plain, table_missing}
 use Rattle.store_sql.proofs.RefusedLemmas.{store_known}
+use Rattle.store_sql.proofs.SelectLemmas.{moved_to, standing_alone}
 
-module _ (sql : List ℕ) (params : Row) (old new : State) (text : sql ≡ by_first_text (standing EventRules))
-    (unused : is_used old.now.schema (table_name EventRules) ≡ false) where
+-- the text is the same wherever the table stands
+pub text_here : (table : of_club.Table) (tree : ℕ)
+    → by_first_text (standing table) ≡ by_first_text (made_as table tree)
+text_here table tree = ap by_first_text (moved_to table refl tree)
+
+-- the text is a SELECT, whatever the schema
+pub table_select : (table : of_club.Table) → IsSelect (by_first_text (standing table))
+table_select table =
+    let alone = standing_alone table in
+    subst IsSelect (sym (text_here table alone.tree)) (placed_shown club_schema table alone).group_is
+
+module _ (table : of_club.Table) (sql : List ℕ) (params : Row) (old new : State)
+    (text : sql ≡ by_first_text (standing table)) (unused : is_used old.now.schema (table_name table) ≡ false) where
   none_used : (a b c : Option ℕ) → (is_some a || is_some b || is_some c) ≡ false → (a ≡ None) × (c ≡ None)
   none_used None None None is = (refl, refl)
   none_used _ _ _ is = absurd (true≢false is)
@@ -27,9 +40,9 @@ module _ (sql : List ℕ) (params : Row) (old new : State) (text : sql ≡ by_fi
   pub never_shown : (rows : List Row) → ¬ Shown sql params old new rows
   unfolding Shown
   never_shown rows h =
-      let free = none_used (table_named old.now.schema (table_name EventRules)) _ _ unused in
+      let free = none_used (table_named old.now.schema (table_name table)) _ _ unused in
       let none : is_ok (understood old.now.schema sql) ≡ false =
-      ap (λ t. is_ok (understood old.now.schema t)) text ∙ rules_missing old.now.schema free.0 free.1 in
+      ap (λ t. is_ok (understood old.now.schema t)) text ∙ table_missing table old.now.schema free.0 free.1 in
       true≢false (sym (ap is_ok h.1.is) ∙ none)
 
 -- where a SELECT is refused, whatever the schema, the connection is as it was

@@ -6,7 +6,7 @@ ghost use Rattle.sqlite.specs.State.{HasCleanDisk};
 ghost use Rattle.sqlite.specs.Held.{state};
 ghost use Rattle.sqlite.specs.declared.types.Value.TheVariants.{Null, Int, Text};
 ghost use Rattle.store_tables.specs.internal.Contents.{AreThose};
-ghost use Rattle.store_tables.specs.Over.{HasRows};
+ghost use Rattle.store_tables.specs.Over.{HasRowsIn};
 ghost use Rattle.store_tables.specs.Reading.{Reads};
 
 use crate::fault::TableFault;
@@ -14,7 +14,9 @@ use crate::read::parse_shown_rows;
 use crate::texts::Select;
 use sqlite::{Alter, Connection, Error, Row, params};
 use std::alloc::Global;
-use store_tables::{ChallengeRow, EventRow, GameTableRow, MemberRow, MoveRow, ScoreRow, SeenRow};
+use store_tables::{
+    ChallengeRow, EventRow, GameTableRow, KeyRow, MemberRow, MoveRow, ScoreRow, SeenRow,
+};
 
 const MEMBERS_BY_NAME: &str = "SELECT id, name, key FROM members WHERE name = ?1";
 
@@ -37,6 +39,8 @@ const SEEN_BY_POSITION: &str =
 const SCORES_BY_PAIR: &str =
     "SELECT event, member, opponent, points, wins, draws, losses FROM scores WHERE event = ?1 AND member = ?2 AND opponent = ?3";
 
+const KEYS_BY_KEY: &str = "SELECT member, number, key FROM keys WHERE key = ?1";
+
 /// A query for the row with given values in columns that are a key or UNIQUE.
 pub trait UniqueKey {
     /// The type of the row.
@@ -55,7 +59,7 @@ pub trait UniqueKey {
     fn show<S: Alter>(&self, conn: &mut Connection<S>) -> Result<Vec<Row>, Error>
         ensures reads { Reads (is_ok result) (state S.Store conn.old) (state S.Store conn.new) }
         ensures rows { HasCleanDisk (state S.Store conn.new) → IfOk result (λ shown. (content : _) →
-            HasRows content (state S.Store conn.old) →
+            HasRowsIn Self.Row.since content (state S.Store conn.old) →
             AreThose columns (wanted self.now) (content Self.Row.table.tree) shown.items) };
 }
 
@@ -211,6 +215,24 @@ impl UniqueKey for ScoreKey {
     }
 }
 
+/// A query for the later key of a member that is this secret key.
+#[derive(Debug, Clone, Copy)]
+pub struct LaterKey<'a> {
+    pub key: &'a str,
+}
+
+impl UniqueKey for LaterKey<'_> {
+    type Row = KeyRow;
+
+    ghost columns = { 2 ∷ [] };
+
+    ghost wanted = { λ q. Null ∷ Null ∷ Text q.key.now ∷ [] };
+
+    fn show<S: Alter>(&self, conn: &mut Connection<S>) -> Result<Vec<Row>, Error> {
+        conn.query_all(KEYS_BY_KEY, params![self.key])
+    }
+}
+
 /// Returns the row with these values: one, or none.
 ///
 /// # Errors
@@ -228,7 +250,7 @@ pub fn find<Q: UniqueKey, S: Alter>(
 ) -> Result<Vec<Q::Row>, TableFault>
     ensures reads { Reads (is_ok result) (state S.Store conn.old) (state S.Store conn.new) }
     ensures rows { HasCleanDisk (state S.Store conn.new) → IfOk result (λ found. (content : _) →
-        HasRows content (state S.Store conn.old) →
+        HasRowsIn Q.Row.since content (state S.Store conn.old) →
         AreThose Q.columns (Q.wanted question.now) (content Q.Row.table.tree) (map Q.Row.cells found.items)) }
 {
     match question.show(conn) {

@@ -11,10 +11,10 @@
 //!   Done, the tables have these rows; failed, a crash leaves the tables before or after.
 //! - `create_tables` (`stored`, `fault`, `behind`, `behind_fault`, `stands`): the tables are made, in an empty
 //!   database or beside foreign tables with room for a club. A crash leaves no club or all of it.
-//! - `migrate` (`stored`, `fault`, `survives`): schema 1 becomes schema 2 in one transaction with one commit. Failed,
-//!   a crash leaves the tables before or after.
-//! - `has_event_rules` (`stands`, `missing`): whether the table of schema 2 exists: true where it is the club's, false
-//!   where nothing has its name.
+//! - `migrate` (`stored`, `fault`, `survives`): a schema becomes a later one in one transaction with one commit.
+//!   Failed, a crash leaves the tables before or after.
+//! - `has_table` (`stands`, `missing`): whether a table of a club exists: true where it is the club's, false where
+//!   nothing has its name.
 //! - All of it holds beside foreign tables, indexes and views that have no part in writing a row (`TakesClub`).
 #![tactic(auto)]
 
@@ -39,12 +39,12 @@ pub use copy_fault::CopyFault;
 pub use creation::create_with_rows;
 pub use fault::{ReadFault, TableFault, is_refused};
 pub use keys::{
-    ChallengeNumber, EventName, GameKey, MemberKey, MemberName, MovePly, ScoreKey, SeenPosition,
-    UniqueKey, find,
+    ChallengeNumber, EventName, GameKey, LaterKey, MemberKey, MemberName, MovePly, ScoreKey,
+    SeenPosition, UniqueKey, find,
 };
 pub use lookups::{ChallengesTo, ColumnValue, find_by_column};
 pub use make::create_tables;
-pub use migration::{has_event_rules, migrate};
+pub use migration::{has_table, migrate};
 pub use read::{
     check_columns, check_rowids, count, find_by_first, list, read_all, read_by_first, show_all,
 };

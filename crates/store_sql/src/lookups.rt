@@ -8,7 +8,7 @@ ghost use Rattle.sqlite.specs.Held.{state};
 ghost use Rattle.sqlite.specs.declared.types.Value.TheVariants.{Null, Int};
 ghost use Rattle.store_tables.specs.internal.Contents.{AreThose};
 ghost use Rattle.store_tables.specs.internal.Reading.{by_columns};
-ghost use Rattle.store_tables.specs.Over.{HasRows};
+ghost use Rattle.store_tables.specs.Over.{HasRowsIn};
 ghost use Rattle.store_tables.specs.Reading.{Reads};
 
 use crate::fault::TableFault;
@@ -39,7 +39,7 @@ pub trait ColumnValue {
     fn show<S: Alter>(&self, conn: &mut Connection<S>) -> Result<Vec<Row>, Error>
         ensures reads { Reads (is_ok result) (state S.Store conn.old) (state S.Store conn.new) }
         ensures rows { HasCleanDisk (state S.Store conn.new) → IfOk result (λ shown. (content : _) →
-            HasRows content (state S.Store conn.old) →
+            HasRowsIn Self.Row.since content (state S.Store conn.old) →
             AreThose (column ∷ []) (wanted self.now) (content Self.Row.table.tree) shown.items ×
             IsSorted (by_columns Self.Row.width) shown.items) };
 }
@@ -79,7 +79,7 @@ pub fn find_by_column<Q: ColumnValue, S: Alter>(
 ) -> Result<Vec<Q::Row>, TableFault>
     ensures reads { Reads (is_ok result) (state S.Store conn.old) (state S.Store conn.new) }
     ensures rows { HasCleanDisk (state S.Store conn.new) → IfOk result (λ found. (content : _) →
-        HasRows content (state S.Store conn.old) →
+        HasRowsIn Q.Row.since content (state S.Store conn.old) →
         AreThose (Q.column ∷ []) (Q.wanted question.now) (content Q.Row.table.tree)
         (map Q.Row.cells found.items) × IsSorted (by_columns Q.Row.width) (map Q.Row.cells found.items)) }
 {

@@ -12,7 +12,7 @@ ghost use Rattle.sqlite.specs.declared.types.Value.TheVariants.{Int};
 ghost use Rattle.store_tables.specs.Changes.{HaveSame};
 ghost use Rattle.store_tables.specs.Content.{AreApart};
 ghost use Rattle.store_tables.specs.internal.Contents.{AreThose};
-ghost use Rattle.store_tables.specs.Over.{HasRows};
+ghost use Rattle.store_tables.specs.Over.{HasRowsIn};
 ghost use Rattle.store_tables.specs.Placed.{HasTableAt, club_trees};
 ghost use Rattle.store_tables.specs.internal.Queries.{by_others};
 ghost use Rattle.store_tables.specs.Reading.{Reads};
@@ -58,7 +58,7 @@ fn has_no_row(error: &Error) -> bool
 fn show_last<T: Select, S: Alter>(conn: &mut Connection<S>) -> Result<Option<Row>, Error>
     ensures reads { Reads (is_ok result) (state S.Store conn.old) (state S.Store conn.new) }
     ensures last { HasCleanDisk (state S.Store conn.new) → IfOk result (λ row. (content : _) →
-        HasRows content (state S.Store conn.old) → IsLast (content T.table.tree) row) }
+        HasRowsIn T.since content (state S.Store conn.old) → IsLast (content T.table.tree) row) }
     // A table without rows is no error.
     ensures present { IfErr result (λ error. error ≢ QueryReturnedNoRows) }
 {
@@ -97,7 +97,7 @@ fn show_by_first<T: Select, S: Alter>(
 ) -> Result<Vec<Row>, Error>
     ensures reads { Reads (is_ok result) (state S.Store conn.old) (state S.Store conn.new) }
     ensures rows { HasCleanDisk (state S.Store conn.new) → IfOk result (λ rows. (content : _) →
-        HasRows content (state S.Store conn.old) →
+        HasRowsIn T.since content (state S.Store conn.old) →
         AreThose (0 ∷ []) (Int first.now ∷ []) (content T.table.tree) rows.items ×
         IsSorted (by_others T.width) rows.items) }
     ensures told { HasCleanDisk (state S.Store conn.new) → IfOk result (λ rows.
@@ -297,10 +297,10 @@ pub fn list<T: Select, S: Alter>(
 ) -> Result<Vec<T>, TableFault>
     ensures reads { Reads (is_ok result) (state S.Store conn.old) (state S.Store conn.new) }
     ensures rows { HasCleanDisk (state S.Store conn.new) → IfOk result (λ found. IsTrue T.has_id → (content : _) →
-        HasRows content (state S.Store conn.old) →
+        HasRowsIn T.since content (state S.Store conn.old) →
         BeginWithPlaces (content T.table.tree) → map T.cells found.items ≡ content T.table.tree) }
     ensures same { HasCleanDisk (state S.Store conn.new) → IfOk result (λ found. (content : _) →
-        HasRows content (state S.Store conn.old) →
+        HasRowsIn T.since content (state S.Store conn.old) →
         HaveSame (map T.cells found.items) (content T.table.tree)) }
 {
     match show_all::<T, S>(conn) {
@@ -326,7 +326,7 @@ pub fn find_by_first<T: Select, S: Alter>(
 ) -> Result<Vec<T>, TableFault>
     ensures reads { Reads (is_ok result) (state S.Store conn.old) (state S.Store conn.new) }
     ensures rows { HasCleanDisk (state S.Store conn.new) → IfOk result (λ found. (content : _) →
-        HasRows content (state S.Store conn.old) →
+        HasRowsIn T.since content (state S.Store conn.old) →
         AreThose (0 ∷ []) (Int first.now ∷ []) (content T.table.tree) (map T.cells found.items) ×
         IsSorted (by_others T.width) (map T.cells found.items)) }
 {
@@ -361,7 +361,7 @@ fn place_in(row: &Row) -> Result<usize, TableFault>
 pub fn count<T: Select, S: Alter>(conn: &mut Connection<S>) -> Result<usize, TableFault>
     ensures reads { Reads (is_ok result) (state S.Store conn.old) (state S.Store conn.new) }
     ensures count { HasCleanDisk (state S.Store conn.new) → IfOk result (λ n. IsTrue T.has_id → (content : _) →
-        HasRows content (state S.Store conn.old) →
+        HasRowsIn T.since content (state S.Store conn.old) →
         BeginWithPlaces (content T.table.tree) → n ≡ length (content T.table.tree)) }
 {
     let Ok(last) = show_last::<T, S>(conn) else {

@@ -10,13 +10,16 @@ ghost use Rattle.store_tables.specs.Content.{cells as shown};
 ghost use Rattle.store_tables.specs.internal.Queries.{AreShownBy};
 ghost use Rattle.store_tables.specs.Placed.{HasTableAt};
 ghost use Rattle.store_tables.specs.Tables.{made_as, standing};
+ghost use Rattle.store_tables.specs.internal.Tables.{has_table};
 ghost use Rattle.store_tables.specs.declared.names.Table as of_club;
 ghost use Rattle.store_tables.specs.declared.names.Table.TheVariants as variant;
+ghost use Rattle.store_tables.specs.declared.names.Version.{Version};
+ghost use Rattle.store_tables.specs.declared.names.Version.TheVariants.{V2, V3};
 ghost use Rattle.store_tables.proofs.Proved.{placed_shown};
 
 use store_tables::{
-    ChallengeRow, EventRow, EventRuleRow, GameTableRow, MemberRow, MetaRow, MoveRow, ScoreRow,
-    SeenRow, Table, TableRow,
+    ChallengeRow, ClosingRow, EventRow, EventRuleRow, GameTableRow, KeyRow, MemberRow, MetaRow,
+    MoveRow, RulingRow, ScoreRow, SeenRow, Table, TableRow,
 };
 
 /// A row type whose table has SELECT statements for its rows.
@@ -31,11 +34,16 @@ pub trait Select: TableRow {
 
     ghost has_id: { Bool } = { true };
 
+    // the schema version of which the table is read; later versions have it too
+    ghost since: { Version } = { V2 };
+
     /// The table that holds these rows.
     fn table() -> Table
         ensures { standing result ≡ table };
 
     ghost is_table: { table ≡ standing which };
+
+    ghost is_there: { IsTrue (has_table since which) };
 
     // its statements return its rows, whatever other tables exist
     ghost read: { (schema : Schema) (stands : HasTableAt schema which) → AreShownBy schema (made_as which stands.tree)
@@ -50,6 +58,8 @@ impl Select for MetaRow {
     ghost table = { standing variant.Meta };
 
     ghost is_table = { refl };
+
+    ghost is_there = { refl };
 
     ghost read = { λ schema stands. placed_shown schema variant.Meta stands };
 
@@ -67,6 +77,8 @@ impl Select for MemberRow {
 
     ghost is_table = { refl };
 
+    ghost is_there = { refl };
+
     ghost read = { λ schema stands. placed_shown schema variant.Members stands };
 
     ghost numbered = { λ it. (refl, λ r. refl) };
@@ -83,6 +95,8 @@ impl Select for EventRow {
 
     ghost is_table = { refl };
 
+    ghost is_there = { refl };
+
     ghost read = { λ schema stands. placed_shown schema variant.Events stands };
 
     ghost numbered = { λ it. (refl, λ r. refl) };
@@ -98,6 +112,8 @@ impl Select for EventRuleRow {
     ghost table = { standing variant.EventRules };
 
     ghost is_table = { refl };
+
+    ghost is_there = { refl };
 
     ghost read = { λ schema stands. placed_shown schema variant.EventRules stands };
 
@@ -119,6 +135,8 @@ impl Select for ChallengeRow {
 
     ghost is_table = { refl };
 
+    ghost is_there = { refl };
+
     ghost read = { λ schema stands. placed_shown schema variant.Challenges stands };
 
     ghost numbered = { λ it. absurd (true≢false (sym it)) };
@@ -139,6 +157,8 @@ impl Select for MoveRow {
 
     ghost is_table = { refl };
 
+    ghost is_there = { refl };
+
     ghost read = { λ schema stands. placed_shown schema variant.Moves stands };
 
     ghost numbered = { λ it. absurd (true≢false (sym it)) };
@@ -154,6 +174,8 @@ impl Select for GameTableRow {
     ghost table = { standing variant.Games };
 
     ghost is_table = { refl };
+
+    ghost is_there = { refl };
 
     ghost read = { λ schema stands. placed_shown schema variant.Games stands };
 
@@ -175,6 +197,8 @@ impl Select for SeenRow {
 
     ghost is_table = { refl };
 
+    ghost is_there = { refl };
+
     ghost read = { λ schema stands. placed_shown schema variant.Seen stands };
 
     ghost numbered = { λ it. absurd (true≢false (sym it)) };
@@ -195,11 +219,81 @@ impl Select for ScoreRow {
 
     ghost is_table = { refl };
 
+    ghost is_there = { refl };
+
     ghost read = { λ schema stands. placed_shown schema variant.Scores stands };
 
     ghost numbered = { λ it. absurd (true≢false (sym it)) };
 
     fn table() -> Table {
         Table::Scores
+    }
+}
+
+impl Select for KeyRow {
+    ghost which = { variant.Keys };
+
+    ghost table = { standing variant.Keys };
+
+    ghost width = { 2 };
+
+    ghost has_id = { false };
+
+    ghost since = { V3 };
+
+    ghost is_table = { refl };
+
+    ghost is_there = { refl };
+
+    ghost read = { λ schema stands. placed_shown schema variant.Keys stands };
+
+    ghost numbered = { λ it. absurd (true≢false (sym it)) };
+
+    fn table() -> Table {
+        Table::Keys
+    }
+}
+
+impl Select for RulingRow {
+    ghost which = { variant.Rulings };
+
+    ghost table = { standing variant.Rulings };
+
+    ghost width = { 2 };
+
+    ghost has_id = { false };
+
+    ghost since = { V3 };
+
+    ghost is_table = { refl };
+
+    ghost is_there = { refl };
+
+    ghost read = { λ schema stands. placed_shown schema variant.Rulings stands };
+
+    ghost numbered = { λ it. absurd (true≢false (sym it)) };
+
+    fn table() -> Table {
+        Table::Rulings
+    }
+}
+
+impl Select for ClosingRow {
+    ghost which = { variant.Closings };
+
+    ghost table = { standing variant.Closings };
+
+    ghost since = { V3 };
+
+    ghost is_table = { refl };
+
+    ghost is_there = { refl };
+
+    ghost read = { λ schema stands. placed_shown schema variant.Closings stands };
+
+    ghost numbered = { λ it. (refl, λ r. refl) };
+
+    fn table() -> Table {
+        Table::Closings
     }
 }

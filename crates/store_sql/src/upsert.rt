@@ -1,6 +1,6 @@
 //! Upserts rows into their tables, by their keys.
 
-ghost use Rattle.std.specs.Prelude.{◌≡◌, ℕ, List, [], ◌∷◌, IsTrue, IfErr, OnOk, map};
+ghost use Rattle.std.specs.Prelude.{◌≡◌, ◌⊎◌, ℕ, List, [], ◌∷◌, IsTrue, IfErr, OnOk, map};
 ghost use Rattle.sqlite.specs.State.{HasCleanDisk, Survives};
 ghost use Rattle.sqlite.specs.Held.{state};
 ghost use Rattle.store_tables.specs.internal.Contents.{put_in, put_each};
@@ -9,18 +9,21 @@ ghost use Rattle.store_tables.specs.internal.Over.{StepsBeside};
 ghost use Rattle.store_tables.specs.internal.Reading.{IsNoInput};
 ghost use Rattle.store_tables.specs.Names.{tree_of};
 ghost use Rattle.store_tables.specs.Placed.{TakesClub};
+ghost use Rattle.store_tables.specs.internal.Tables.{has_table};
+ghost use Rattle.store_tables.specs.declared.names.Table as of_this;
 ghost use Rattle.store_tables.specs.declared.names.Table.TheVariants as of_club;
-ghost use Rattle.store_tables.specs.declared.names.Version.TheVariants.{Current};
 
 use sqlite::{Alter, Error, Transaction, params};
 use store_tables::{
-    ChallengeRow, EventRow, EventRuleRow, GameTableRow, MemberRow, MetaRow, MoveRow, ScoreRow,
-    SeenRow, Table, TableRow,
+    ChallengeRow, ClosingRow, EventRow, EventRuleRow, GameTableRow, KeyRow, MemberRow, MetaRow,
+    MoveRow, RulingRow, ScoreRow, SeenRow, Table, TableRow,
 };
 
 /// A row type with an upsert statement.
 pub trait Upsert: TableRow {
-    // the number of the table's tree, and the columns of its key
+    // the table, the number of its tree, and the columns of its key
+    ghost which: { of_this.Table };
+
     ghost tree: { ℕ };
 
     ghost key: { List ℕ };
@@ -38,7 +41,8 @@ pub trait Upsert: TableRow {
         ensures same_reference { tx.new.conn.ghost_name ≡ tx.old.conn.ghost_name }
         ensures put { HasCleanDisk (state S.Store tx.new.conn.now) → IsTrue
             (state S.Store tx.old.conn.now).in_transaction →
-            OnOk result (StepsBeside (put_in tree key (Self.cells self.now)) (state S.Store tx.old.conn.now)
+            OnOk result ((version : _) → IsTrue (has_table version which) →
+            StepsBeside version (put_in tree key (Self.cells self.now)) (state S.Store tx.old.conn.now)
             (state S.Store tx.new.conn.now)) }
         ensures survives { Survives (state S.Store tx.old.conn.now) (state S.Store tx.new.conn.now) (λ _. ⊥) };
 }
@@ -48,10 +52,12 @@ pub(crate) fn put_meta<S: Alter>(row: &MetaRow, tx: &mut Transaction<'_, S>) -> 
     ensures same_reference { tx.new.conn.ghost_name ≡ tx.old.conn.ghost_name }
     ensures put { HasCleanDisk (state S.Store tx.new.conn.now) → IsTrue
         (state S.Store tx.old.conn.now).in_transaction →
-        OnOk result (StepsBeside (put_in (tree_of of_club.Meta) (0 ∷ []) (meta_cells row.now))
+        OnOk result ((version : _) → IsTrue (has_table version of_club.Meta) →
+        StepsBeside version (put_in (tree_of of_club.Meta) (0 ∷ []) (meta_cells row.now))
         (state S.Store tx.old.conn.now) (state S.Store tx.new.conn.now)) }
     ensures known { HasCleanDisk (state S.Store tx.new.conn.now) → IsTrue
-        (state S.Store tx.old.conn.now).in_transaction → TakesClub Current (state S.Store tx.old.conn.now).now.schema →
+        (state S.Store tx.old.conn.now).in_transaction → (version : _) →
+        TakesClub version (state S.Store tx.old.conn.now).now.schema →
         IfErr result IsNoInput }
     ensures survives { Survives (state S.Store tx.old.conn.now) (state S.Store tx.new.conn.now) (λ _. ⊥) }
 {
@@ -62,6 +68,8 @@ pub(crate) fn put_meta<S: Alter>(row: &MetaRow, tx: &mut Transaction<'_, S>) -> 
 }
 
 impl Upsert for MetaRow {
+    ghost which = { of_club.Meta };
+
     ghost tree = { tree_of of_club.Meta };
 
     ghost key = { 0 ∷ [] };
@@ -72,6 +80,8 @@ impl Upsert for MetaRow {
 }
 
 impl Upsert for MemberRow {
+    ghost which = { of_club.Members };
+
     ghost tree = { tree_of of_club.Members };
 
     ghost key = { 0 ∷ [] };
@@ -86,6 +96,8 @@ impl Upsert for MemberRow {
 }
 
 impl Upsert for EventRow {
+    ghost which = { of_club.Events };
+
     ghost tree = { tree_of of_club.Events };
 
     ghost key = { 0 ∷ [] };
@@ -106,6 +118,8 @@ impl Upsert for EventRow {
 }
 
 impl Upsert for EventRuleRow {
+    ghost which = { of_club.EventRules };
+
     ghost tree = { tree_of of_club.EventRules };
 
     ghost key = { 0 ∷ [] };
@@ -117,6 +131,8 @@ impl Upsert for EventRuleRow {
 }
 
 impl Upsert for MoveRow {
+    ghost which = { of_club.Moves };
+
     ghost tree = { tree_of of_club.Moves };
 
     ghost key = { 0 ∷ 1 ∷ [] };
@@ -138,6 +154,8 @@ impl Upsert for MoveRow {
 }
 
 impl Upsert for GameTableRow {
+    ghost which = { of_club.Games };
+
     ghost tree = { tree_of of_club.Games };
 
     ghost key = { 0 ∷ [] };
@@ -170,6 +188,8 @@ impl Upsert for GameTableRow {
 }
 
 impl Upsert for ChallengeRow {
+    ghost which = { of_club.Challenges };
+
     ghost tree = { tree_of of_club.Challenges };
 
     ghost key = { 0 ∷ 1 ∷ [] };
@@ -192,6 +212,8 @@ impl Upsert for ChallengeRow {
 }
 
 impl Upsert for SeenRow {
+    ghost which = { of_club.Seen };
+
     ghost tree = { tree_of of_club.Seen };
 
     ghost key = { 0 ∷ 1 ∷ [] };
@@ -211,6 +233,8 @@ impl Upsert for SeenRow {
 }
 
 impl Upsert for ScoreRow {
+    ghost which = { of_club.Scores };
+
     ghost tree = { tree_of of_club.Scores };
 
     ghost key = { 0 ∷ 1 ∷ 2 ∷ [] };
@@ -232,6 +256,61 @@ impl Upsert for ScoreRow {
     }
 }
 
+impl Upsert for KeyRow {
+    ghost which = { of_club.Keys };
+
+    ghost tree = { tree_of of_club.Keys };
+
+    ghost key = { 0 ∷ 1 ∷ [] };
+
+    fn put<S: Alter>(&self, tx: &mut Transaction<'_, S>) -> Result<(), Error> {
+        tx.execute(
+            Table::Keys.put(),
+            params![self.member, self.number, self.key.as_str()],
+        )?;
+        Ok(())
+    }
+}
+
+impl Upsert for RulingRow {
+    ghost which = { of_club.Rulings };
+
+    ghost tree = { tree_of of_club.Rulings };
+
+    ghost key = { 0 ∷ 1 ∷ [] };
+
+    fn put<S: Alter>(&self, tx: &mut Transaction<'_, S>) -> Result<(), Error> {
+        tx.execute(
+            Table::Rulings.put(),
+            params![
+                self.game,
+                self.number,
+                self.moment,
+                self.ply,
+                self.kind,
+                self.seconds,
+                &self.result,
+                &self.beneath,
+                &self.beneath_result
+            ],
+        )?;
+        Ok(())
+    }
+}
+
+impl Upsert for ClosingRow {
+    ghost which = { of_club.Closings };
+
+    ghost tree = { tree_of of_club.Closings };
+
+    ghost key = { 0 ∷ [] };
+
+    fn put<S: Alter>(&self, tx: &mut Transaction<'_, S>) -> Result<(), Error> {
+        tx.execute(Table::Closings.put(), params![self.event, self.moment])?;
+        Ok(())
+    }
+}
+
 /// Upserts the rows in order, in an open transaction.
 ///
 /// # Errors
@@ -245,7 +324,8 @@ pub fn put_all<T: Upsert, S: Alter>(tx: &mut Transaction<'_, S>, rows: &[T]) -> 
     ensures same_reference { tx.new.conn.ghost_name ≡ tx.old.conn.ghost_name }
     ensures put { HasCleanDisk (state S.Store tx.new.conn.now) → IsTrue
         (state S.Store tx.old.conn.now).in_transaction →
-        OnOk result (StepsBeside (put_each T.tree T.key (map T.cells rows.now)) (state S.Store tx.old.conn.now)
+        OnOk result ((version : _) → IsTrue (has_table version T.which) ⊎ (rows.now ≡ []) →
+        StepsBeside version (put_each T.tree T.key (map T.cells rows.now)) (state S.Store tx.old.conn.now)
         (state S.Store tx.new.conn.now)) }
     ensures survives { Survives (state S.Store tx.old.conn.now) (state S.Store tx.new.conn.now) (λ _. ⊥) }
 {

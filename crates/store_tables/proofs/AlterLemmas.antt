@@ -1,6 +1,6 @@
 -- Rows put in turn make the new table of the old.
 use Rattle.std.proofs.Common.{◌≡◌, ℕ, Bool, true, false, not, List, [], ◌∷◌, refl, ap, sym, subst, ◌∙◌, inl, inr, ◌⊎◌}
-use Rattle.std.proofs.Common.{true≢false, Option, Some, None, if◌then◌else◌, ◌==◌}
+use Rattle.std.proofs.Common.{true≢false, Option, Some, None, if◌then◌else◌, ◌==◌, ℤ}
 use Rattle.std.specs.List.{AllByRecursion}
 use Rattle.std.proofs.lemmas.Bool.{cases_Bool, not-true}
 use Rattle.store_tables.specs.Sql.{Has, Row, Table}
@@ -11,20 +11,20 @@ use Rattle.store_tables.specs.Contents.{Content}
 use Rattle.store_tables.specs.internal.Contents.{put_in, put_each}
 use Rattle.store_tables.specs.Changes.{HaveSame}
 use Rattle.store_tables.specs.internal.Changes.{AreSame, Alters, put_rows}
-use Rattle.store_tables.specs.internal.Changed.{put_maybe, changed, maybe_row, AltersTables}
-use Rattle.store_tables.specs.Tables.{club_schema, standing}
+use Rattle.store_tables.specs.internal.Changed.{put_maybe, changed, maybe_row, meta_at, AltersTables}
+use Rattle.store_tables.specs.Tables.{standing}
+use Rattle.store_tables.specs.internal.Tables.{club_schema}
 use Rattle.store_tables.specs.declared.names.Table.TheVariants.{Members, Events, EventRules, Challenges, Moves, Games}
-use Rattle.store_tables.specs.declared.names.Table.TheVariants.{Seen, Scores, Meta}
-use Rattle.store_tables.specs.internal.Cells.{meta_cells}
-use Rattle.store_tables.specs.declared.rows.MetaRow.{MetaRow}
+use Rattle.store_tables.specs.declared.names.Table.TheVariants.{Seen, Scores, Meta, Keys, Rulings, Closings}
+use Rattle.store_tables.specs.declared.names.Version.{Version}
 use Rattle.store_tables.specs.declared.rows.Changes.{Changes}
 
 -- what holds of each table of a club
 module _ (P : Table → Type 0) where
   pub each_of_club : P (standing Meta) → P (standing Members) → P (standing Events) → P (standing Challenges)
       → P (standing Moves) → P (standing Games) → P (standing Seen) → P (standing Scores) → P (standing EventRules)
-      → AllByRecursion P club_schema.tables
-  each_of_club a b c d e f g h i = (a, (b, (c, (d, (e, (f, (g, (h, (i, tt)))))))))
+      → P (standing Keys) → P (standing Rulings) → P (standing Closings) → AllByRecursion P club_schema.tables
+  each_of_club a b c d e f g h i j k l = (a, (b, (c, (d, (e, (f, (g, (h, (i, (j, (k, (l, tt))))))))))))
 
 pub same_itself : (rows : List Row) → HaveSame rows rows
 same_itself rows = record { there = λ z h. h; back = λ z h. h }
@@ -124,36 +124,42 @@ module _ (t : ℕ) where
   each_past tree key puts content rows other is =
       each_at key tree puts content t ∙ (λ i. if other i then put_rows key puts (content t) else is i)
 
-  pub maybe_past : (meta : Option MetaRow) (content : Content) (rows : List Row) → (t == 0) ≡ false → content t ≡ rows
-      → put_maybe meta content t ≡ rows
-  maybe_past None content rows other is = is
-  maybe_past (Some meta) content rows other is = each_past 0 (0 ∷ []) (meta_cells meta ∷ []) content rows other is
+  pub maybe_past : (version : Version) (last : Option ℤ) (content : Content) (rows : List Row) → (t == 0) ≡ false
+      → content t ≡ rows → put_maybe version last content t ≡ rows
+  maybe_past version None content rows other is = is
+  maybe_past version (Some last) content rows other is =
+      each_past 0 (0 ∷ []) (meta_at version last ∷ []) content rows other is
 
   each_own : (tree : ℕ) (key : List ℕ) (puts : List Row) (content : Content) (was : List Row) → (t == tree) ≡ true
       → content t ≡ was → put_each tree key puts content t ≡ put_rows key puts was
   each_own tree key puts content was own is =
       each_at key tree puts content t ∙ (λ i. if own i then put_rows key puts (is i) else is i)
 
-  maybe_own : (meta : Option MetaRow) (content : Content) (was : List Row) → (t == 0) ≡ true → content t ≡ was
-      → put_maybe meta content t ≡ put_rows (0 ∷ []) (maybe_row meta) was
-  maybe_own None content was own is = is
-  maybe_own (Some meta) content was own is = each_own 0 (0 ∷ []) (meta_cells meta ∷ []) content was own is
+  maybe_own : (version : Version) (last : Option ℤ) (content : Content) (was : List Row) → (t == 0) ≡ true
+      → content t ≡ was → put_maybe version last content t ≡ put_rows (0 ∷ []) (maybe_row version last) was
+  maybe_own version None content was own is = is
+  maybe_own version (Some last) content was own is =
+      each_own 0 (0 ∷ []) (meta_at version last ∷ []) content was own is
 
 -- What is put of each table makes the new content of the old.
-module _ (c : Changes) (old : Content) where
+module _ (version : Version) (c : Changes) (old : Content) where
   by : (key : List ℕ) (changed rows was new : List Row) → Alters key changed was new → rows ≡ put_rows key changed was
       → HaveSame rows new
   by key changed rows was new it is = subst (λ l. HaveSame l new) (sym is) (altered key changed was new it)
 
-  pub tables_altered : (new : Content) → AltersTables c old new → AreSame club_schema (changed c old) new
+  pub tables_altered : (new : Content) → AltersTables version c old new
+      → AreSame club_schema (changed version c old) new
   tables_altered new it =
-      each_of_club (λ table. HaveSame (changed c old table.tree) (new table.tree))
-      (by _ _ _ _ _ it.meta (search (maybe_own, each_past) depth 12))
-      (by _ _ _ _ _ it.members (search (maybe_past, each_past, each_own) depth 12))
-      (by _ _ _ _ _ it.events (search (maybe_past, each_past, each_own) depth 12))
-      (by _ _ _ _ _ it.challenges (search (maybe_past, each_past, each_own) depth 12))
-      (by _ _ _ _ _ it.moves (search (maybe_past, each_past, each_own) depth 12))
-      (by _ _ _ _ _ it.games (search (maybe_past, each_past, each_own) depth 12))
-      (by _ _ _ _ _ it.seen (search (maybe_past, each_past, each_own) depth 12))
-      (by _ _ _ _ _ it.scores (search (maybe_past, each_past, each_own) depth 12))
-      (by _ _ _ _ _ it.event_rules (search (maybe_past, each_past, each_own) depth 12))
+      each_of_club (λ table. HaveSame (changed version c old table.tree) (new table.tree))
+      (by _ _ _ _ _ it.meta (search (maybe_own, each_past) depth 15))
+      (by _ _ _ _ _ it.members (search (maybe_past, each_past, each_own) depth 15))
+      (by _ _ _ _ _ it.events (search (maybe_past, each_past, each_own) depth 15))
+      (by _ _ _ _ _ it.challenges (search (maybe_past, each_past, each_own) depth 15))
+      (by _ _ _ _ _ it.moves (search (maybe_past, each_past, each_own) depth 15))
+      (by _ _ _ _ _ it.games (search (maybe_past, each_past, each_own) depth 15))
+      (by _ _ _ _ _ it.seen (search (maybe_past, each_past, each_own) depth 15))
+      (by _ _ _ _ _ it.scores (search (maybe_past, each_past, each_own) depth 15))
+      (by _ _ _ _ _ it.event_rules (search (maybe_past, each_past, each_own) depth 15))
+      (by _ _ _ _ _ it.keys (search (maybe_past, each_past, each_own) depth 15))
+      (by _ _ _ _ _ it.rulings (search (maybe_past, each_past, each_own) depth 15))
+      (by _ _ _ _ _ it.closings (search (maybe_past, each_past, each_own) depth 15))

@@ -1,7 +1,8 @@
 -- What calls that only read leave, one after another.
 use Rattle.std.proofs.Common.{Bool, true, false, refl, arith}
 use Rattle.store_tables.specs.Sql.{State, HasCleanDisk}
-use Rattle.store_tables.specs.Over.{HasRows}
+use Rattle.store_tables.specs.Over.{HasRowsIn}
+use Rattle.store_tables.specs.declared.names.Version.{Version}
 use Rattle.store_tables.specs.Contents.{Content}
 use Rattle.store_tables.specs.Reading.{Reads}
 use Rattle.store_tables.proofs.QueryLemmas.{read_failed, read_then, still_rows}
@@ -11,8 +12,8 @@ pub clean_before : {answered : Bool} {old new : State} → Reads answered old ne
 clean_before reads clean = omega (arith, clean, reads.clean)
 
 -- a call that answered leaves the rows of a club
-pub rows_after : {old new : State} → Reads true old new → HasCleanDisk new → (content : Content) → HasRows content old
-    → HasRows content new
+pub rows_after : {version : Version} {old new : State} → Reads true old new → HasCleanDisk new → (content : Content)
+    → HasRowsIn version content old → HasRowsIn version content new
 rows_after reads clean = still_rows _ _ (reads.kept refl clean)
 
 -- a call after one that answered

@@ -1,6 +1,6 @@
 -- A migration from one schema version to a later one: what stands stays, and what is new has no rows.
-use Rattle.std.proofs.Common.{◌≡◌, ◌≤◌, ℕ, ◌==◌, true, false, List, [], ◌∷◌, ◌++◌, Option, None, Some, refl, sym, ap}
-use Rattle.std.proofs.Common.{subst, ◌∙◌, inl, inr, arith, eqb-true, le_refl}
+use Rattle.std.proofs.Common.{◌≡◌, ◌≤◌, ℕ, ◌==◌, false, List, [], ◌∷◌, ◌++◌, Option, None, Some, refl, sym, ap}
+use Rattle.std.proofs.Common.{subst, ◌∙◌, inl, inr, arith, eqb-true, le_refl, true≢false}
 use Rattle.std.proofs.lemmas.Bool.{cases_Bool}
 use Rattle.std.proofs.lemmas.List.{take-append-drop, take-take}
 use Rattle.std.specs.List.{AllByRecursion}
@@ -11,26 +11,24 @@ use Rattle.sqlite_rules.proofs.ListLemmas.{all_has, has_either, has_left}
 use Rattle.sqlite_schema.specs.Names.{table_named}
 use Rattle.store_tables.specs.Contents as of_schema
 use Rattle.store_tables.specs.Contents.{Content, Holds, nothing}
-use Rattle.store_tables.specs.internal.Contents.{Ran}
 use Rattle.store_tables.specs.Migrations.{HoldsInVersion, LeavesInVersion, MigratesTo, added_tables}
 use Rattle.store_tables.specs.Names.{in_order, table_count, table_name, tree_of}
 use Rattle.store_tables.specs.Over.{HoldsClubAmong, LeavesBeside, Neighbours, alone, over}
 use Rattle.store_tables.specs.internal.Over.{HoldsBeside}
-use Rattle.store_tables.specs.Placed.{EachStanding, HasTableAt, HasTables, HasTablesOf, TakesClub, later_tables}
+use Rattle.store_tables.specs.Placed.{EachStanding, HasTableAt, HasTables, HasTablesOf, TakesClub, excluded_tables}
 use Rattle.store_tables.specs.Placed.{rows_at, tables_of, tree_in}
 use Rattle.store_tables.specs.Reading.{KeepsContent}
 use Rattle.store_tables.specs.Room.{AreUnused, made_in}
-use Rattle.store_tables.specs.Tables.{club_schema, made_as, schema_after, schema_number, schema_of}
-use Rattle.store_tables.specs.internal.Texts.{create_of}
+use Rattle.store_tables.specs.internal.Room.{AreBare, MakesHere}
+use Rattle.store_tables.specs.Tables.{IsServed, made_as, schema_after, schema_number, schema_of}
 use Rattle.store_tables.specs.declared.names.Table as of_club
-use Rattle.store_tables.specs.declared.names.Table.TheVariants.{EventRules}
 use Rattle.store_tables.specs.declared.names.Version.{Version}
-use Rattle.store_tables.specs.declared.names.Version.TheVariants.{First, Current}
-use Rattle.store_tables.proofs.OverLemmas.{alone_takes, beside_alone, leaves_beside, still_beside, unused_alone}
-use Rattle.store_tables.proofs.PlacedCreated.{stands_grown, stands_on}
+use Rattle.store_tables.specs.declared.names.Version.TheVariants.{V1, V2, V3}
+use Rattle.store_tables.proofs.OverLemmas.{alone_takes, beside_alone, leaves_beside, made_alone, still_beside, unused_first}
+use Rattle.store_tables.proofs.PlacedCreated.{grown, same_table, stands_grown, stands_on}
 use Rattle.store_tables.proofs.PlacedCreates.{is_free}
-use Rattle.store_tables.proofs.PlacedMakes.{makes_one, unused_parts}
-use Rattle.store_tables.proofs.PlacedOver.{at_version, held_over, past_over}
+use Rattle.store_tables.proofs.PlacedMakes.{made_parts, unused_parts}
+use Rattle.store_tables.proofs.PlacedOver.{held_over, past_over}
 use Rattle.store_tables.proofs.PlacedSteps.{each_at, each_from, one_tree, two_tables}
 use Rattle.store_tables.proofs.PlacedTrees.{over_at, tree_found}
 
@@ -63,10 +61,15 @@ never_unused (t ∷ tables) schema (free, stored, counted, rest) table (inr has)
 -- ---- the tables of two versions
 
 fewer_tables : (one other : Version) → schema_number one ≤ schema_number other → table_count one ≤ table_count other
-fewer_tables First First less = omega arith
-fewer_tables First Current less = omega arith
-fewer_tables Current First less = absurd (omega (arith, less))
-fewer_tables Current Current less = omega arith
+fewer_tables V1 V1 less = omega arith
+fewer_tables V1 V2 less = omega arith
+fewer_tables V1 V3 less = omega arith
+fewer_tables V2 V1 less = absurd (omega (arith, less))
+fewer_tables V2 V2 less = omega arith
+fewer_tables V2 V3 less = omega arith
+fewer_tables V3 V1 less = absurd (omega (arith, less))
+fewer_tables V3 V2 less = absurd (omega (arith, less))
+fewer_tables V3 V3 less = omega arith
 
 parted : (one other : Version) → table_count one ≤ table_count other
     → tables_of one ++ added_tables one other ≡ tables_of other
@@ -185,8 +188,9 @@ still_in_version old new kept version them content k = record {
 }
 
 none_added : (version : Version) → added_tables version version ≡ []
-none_added First = refl
-none_added Current = refl
+none_added V1 = refl
+none_added V2 = refl
+none_added V3 = refl
 
 -- each version migrates to itself
 pub migrates_itself : (them : Neighbours) → TakesClub them.version them.schema → MigratesTo them them
@@ -231,103 +235,89 @@ pub left_itself : (version : Version) (them : Neighbours) (content : Content) (d
 left_itself version them content db is k =
     subst (λ n. LeavesBeside n content db) (migrates_nowhere k.before them (k.is ∙ sym is) k.migrates) k.leaves
 
--- What migrates to the current version has the tables of its own alone.
-unused_now : (version : Version) (schema : Schema) → AreUnused schema (added_tables version Current)
-    → AllByRecursion (λ table. is_used schema (table_name table) ≡ false) (later_tables version)
-unused_now First schema unused = (unused.0, tt)
-unused_now Current schema unused = tt
+-- What migrates to a served version has the tables of its own version alone.
+unused_now : (version to : Version) → IsServed to → (schema : Schema) → AreUnused schema (added_tables version to)
+    → AllByRecursion (λ table. is_used schema (table_name table) ≡ false) (excluded_tables version)
+unused_now V1 V1 served schema unused = absurd (true≢false (sym served))
+unused_now V1 V2 served schema unused = (unused.0, tt)
+unused_now V1 V3 served schema unused = (unused.0, tt)
+unused_now V2 to served schema unused = tt
+unused_now V3 to served schema unused = tt
 
-pub tables_before : (before after : Neighbours) → after.version ≡ Current → MigratesTo before after
+pub tables_before : (before after : Neighbours) → IsServed after.version → MigratesTo before after
     → HasTables before.version before.schema → HasTablesOf before.version before.schema
-tables_before before after is migrates club = (
-  club,
-  unused_now before.version before.schema
-      (subst (λ v. AreUnused before.schema (added_tables before.version v)) is migrates.unused),
-)
+tables_before before after served migrates club =
+    (club, unused_now before.version after.version served before.schema migrates.unused)
 
--- A club alone migrates to the current version.
+-- A club alone migrates to each later version.
 no_rows_at : (tree : Option ℕ) → rows_at nothing tree ≡ []
 no_rows_at None = refl
 no_rows_at (Some tree) = refl
 
-pub migrates_alone : (version : Version) → MigratesTo (alone version) (alone Current)
-migrates_alone version = record {
-  later = none_later version;
-  unused = unused_alone_later version;
-  is = made_later version;
-  rows = refl;
-  bare = all_of (λ table. rows_at nothing (tree_in club_schema table) ≡ []) (λ table. no_rows_at (tree_in club_schema table))
-      (added_tables version Current);
-  clear = alone_takes Current;
-}
-  where
-    none_later : (version : Version) → schema_number version ≤ schema_number Current
-    none_later First = let it : 1 ≤ 2 = omega arith in it
-    none_later Current = let it : 2 ≤ 2 = omega arith in it
+pub migrates_alone : (version to : Version) → schema_number version ≤ schema_number to
+    → MigratesTo (alone version) (alone to)
+migrates_alone version to later =
+    let whole = parted version to (fewer_tables version to later) in
+    let all = subst (AreUnused (schema_after 0)) (sym whole) (unused_first to) in
+    let begun = made_alone version in
+    record {
+      later = later;
+      unused = subst (λ s. AreUnused s (added_tables version to)) begun
+          (unused_parts (schema_after 0) (tables_of version) (added_tables version to) all).1;
+      is = sym (made_alone to) ∙ ap (made_in (schema_after 0)) (sym whole)
+          ∙ made_parts (schema_after 0) (tables_of version) (added_tables version to)
+          ∙ ap (λ s. made_in s (added_tables version to)) begun;
+      rows = refl;
+      bare = all_of (λ table. rows_at nothing (tree_in (schema_of to) table) ≡ [])
+          (λ table. no_rows_at (tree_in (schema_of to) table)) (added_tables version to);
+      clear = alone_takes to;
+    }
 
-    unused_alone_later : (version : Version) → AreUnused (schema_of version) (added_tables version Current)
-    unused_alone_later First = (unused_parts (schema_after 0) (tables_of First) (EventRules ∷ []) unused_alone).1
-    unused_alone_later Current = tt
-
-    made_later : (version : Version) → club_schema ≡ made_in (schema_of version) (added_tables version Current)
-    made_later First = refl
-    made_later Current = refl
-
-pub alone_in_version : (version : Version) (content : Content) (s : State)
-    → of_schema.IsExactly (schema_of version) content s → HoldsInVersion version (alone Current) content s
-alone_in_version version content s k = record {
+pub alone_in_version : (version to : Version) → schema_number version ≤ schema_number to → (content : Content)
+    (s : State) → of_schema.IsExactly (schema_of version) content s → HoldsInVersion version (alone to) content s
+alone_in_version version to later content s k = record {
   before = alone version;
   is = refl;
-  migrates = migrates_alone version;
+  migrates = migrates_alone version to later;
   holds = beside_alone version content s k;
 }
 
--- ---- the migration from schema 1 to schema 2
+-- ---- the tables that a migration adds
 
--- The table of the rules of events was made behind what stands: the rows are those of a club of schema 2.
-pub record Widens (old new : State) : Type 0 where
-  pub holds : (before : Neighbours) → before.version ≡ First → (after : Neighbours) → after.version ≡ Current
-      → MigratesTo before after → HasTables First before.schema → (content : Content)
-      → content (tree_of EventRules) ≡ [] → HoldsBeside before content old.now → HoldsBeside after content new.now
-  pub committed : new.committed ≡ old.committed
-  pub inside : new.in_transaction ≡ true
+-- The trees of the tables that are made have no rows where those of the later schema have none.
+bare_here : (tables : List of_club.Table) (schema : Schema) (content : Content) → AreUnused schema tables
+    → ((table : of_club.Table) → Has tables table → (s : HasTableAt (made_in schema tables) table)
+    → content s.tree ≡ [])
+    → AreBare schema content tables
+unfolding stands_on
+bare_here [] schema content unused none = tt
+bare_here (t ∷ tables) schema content (free, stored, counted, rest) none =
+    let next = created schema (made_as t 0) in
+    let new : StandsStill next t (next_tree schema) =
+    subst (λ s. StandsStill s t (next_tree schema)) (ap (grown schema) (sym (same_table t (next_tree schema))))
+    (record { stands = stands_grown schema t (is_free schema (table_name t) free).table stored; same = refl }) in
+    let still = still_there tables next t new.stands in (
+      ap content (sym (still.same ∙ new.same)) ∙ none t (inl refl) still.stands,
+      bare_here tables next content rest (λ table has s. none table (inr has) s),
+    )
 
-module _ (schema wider : Schema) (rows others : Content) where
-  abbrev first : Neighbours
-  first = record { version = First; schema = schema; rows = rows }
-
-  abbrev second : Neighbours
-  second = record { version = Current; schema = wider; rows = others }
-
-  widened_over : MigratesTo first second → HasTables First schema → (content : Content)
-      → content (tree_of EventRules) ≡ [] → (old new : State) → Ran (create_of EventRules) old new
-      → HoldsBeside first content old.now → HoldsBeside second content new.now
-  widened_over migrates club content none old new ran k =
-      let (unused, stored, counted, done) = migrates.unused in
-      let it : StandsStill wider EventRules (next_tree schema) =
-      subst (λ s. StandsStill s EventRules (next_tree schema)) (sym migrates.is)
-      (record {
-        stands = stands_grown schema EventRules (is_free schema (table_name EventRules) unused).table stored;
-        same = refl;
-      }) in
-      let bare = new_bare first second migrates club content (none, tt) EventRules (inl refl) it.stands in
-      let whole = over first content in
-      let made = makes_one EventRules schema unused counted old new ran whole k (ap whole (sym it.same) ∙ bare) in
-      migrated_over first second migrates club content (none, tt) new.now
-      (subst (λ s. Holds s new.now whole) (sym migrates.is) made)
-
-pub widens : (old new : State) (sql : List ℕ) → sql ≡ create_of EventRules → Ran sql old new → Widens old new
-widens old new sql text h = record {
-  holds =
-      at_version First (λ before. (after : Neighbours) → after.version ≡ Current → MigratesTo before after
-      → HasTables First before.schema → (content : Content) → content (tree_of EventRules) ≡ []
-      → HoldsBeside before content old.now → HoldsBeside after content new.now) (λ schema rows.
-      at_version Current (λ after. MigratesTo (first schema schema rows rows) after → HasTables First schema
-      → (content : Content) → content (tree_of EventRules) ≡ []
-      → HoldsBeside (first schema schema rows rows) content old.now → HoldsBeside after content new.now)
-      (λ wider others migrates club content none.
-      widened_over schema wider rows others migrates club content none old new
-      (subst (λ s. Ran s old new) text h)));
-  committed = h.runs.1.committed_is;
-  inside = h.runs.1.mode;
-}
+-- Inside a transaction the tables that a migration adds were made behind what stands; nothing was committed.
+pub widens : (from to : Version) (old new : State) → MakesHere (added_tables from to) old new
+    → (before : Neighbours) → before.version ≡ from → (after : Neighbours) → after.version ≡ to
+    → MigratesTo before after → HasTables from before.schema → (content : Content)
+    → AllByRecursion (λ table. content (tree_of table) ≡ []) (added_tables from to)
+    → HoldsBeside before content old.now → HoldsBeside after content new.now
+widens from to old new made before first after last migrates club content none k =
+    let added = added_tables before.version after.version in
+    let same : added ≡ added_tables from to = λ i. added_tables (first i) (last i) in
+    let here : MakesHere added old new = subst (λ l. MakesHere l old new) (sym same) made in
+    let club_here = subst (λ v. HasTables v before.schema) (sym first) club in
+    let none_here = subst (AllByRecursion (λ table. content (tree_of table) ≡ [])) (sym same) none in
+    let whole = over before content in
+    let bare = new_bare before after migrates club_here content none_here in
+    let free : AreBare before.schema whole added =
+    bare_here added before.schema whole migrates.unused (λ table has s.
+    subst (λ schema. (s : HasTableAt schema table) → whole s.tree ≡ []) migrates.is (bare table has) s) in
+    migrated_over before after migrates club_here content none_here new.now
+    (subst (λ s. Holds s new.now whole) (sym migrates.is)
+    (here.made before.schema migrates.unused whole k free))

@@ -2,7 +2,7 @@
 use Rattle.std.proofs.lemmas.Bool.{and_parts, not-true}
 use Rattle.std.proofs.lemmas.List.{take-append-drop, take-map}
 use Rattle.std.proofs.Common.{true, Bool, not, ◌&&◌, ◌≡◌, ℕ, false, List, [], ◌∷◌, Option, Some, None, refl, ap, sym}
-use Rattle.std.proofs.Common.{subst, ◌∙◌, inl, inr, map, arith, nat_lt, ◌^◌, ◌≤◌, zero, suc, take}
+use Rattle.std.proofs.Common.{subst, ◌∙◌, inl, inr, map, arith, nat_lt, ◌^◌, ◌≤◌, zero, suc, take, drop, IsTrue, true≢false}
 use Rattle.std.proofs.lemmas.Option.{same_Some}
 use Rattle.std.specs.List.{AllByRecursion}
 use Rattle.store_tables.specs.Sql.{Database, Has, Row, State, Schema, Table, Trees}
@@ -17,26 +17,26 @@ use Rattle.store_tables.specs.Content.{AreApart, Keeps, cells}
 use Rattle.store_tables.specs.Contents as of_schema
 use Rattle.store_tables.specs.Contents.{AreStored, Content, Stores, nothing}
 use Rattle.store_tables.specs.Names.{in_order, table_count, table_name, tree_of}
-use Rattle.store_tables.specs.Over.{HasRows, HoldsClubAmong, LeavesBeside, Neighbours, alone, over}
-use Rattle.store_tables.specs.internal.Over.{HoldsBeside}
-use Rattle.store_tables.specs.Placed.{HasTables, HasTablesOf, HasTableAt, TakesClub, by_club, club_trees, later_tables}
-use Rattle.store_tables.specs.Placed.{tables_of, tree_in}
+use Rattle.store_tables.specs.Over.{HasRowsIn, HoldsClubAmong, LeavesBeside, Neighbours, alone, over}
+use Rattle.store_tables.specs.internal.Over.{HasRows, HoldsBeside}
+use Rattle.store_tables.specs.Placed.{HasTables, HasTablesOf, HasTableAt, TakesClub, by_club, club_trees}
+use Rattle.store_tables.specs.Placed.{excluded_tables, tables_of, tree_in}
 use Rattle.store_tables.specs.Reading.{KeepsContent}
 use Rattle.store_tables.specs.Room.{AreUnused, HasRoom, IsWithoutClub, LeavesNoClub, made_in}
-use Rattle.store_tables.specs.Tables.{club_schema, made_as, schema_after, schema_of, standing}
+use Rattle.store_tables.specs.Tables.{IsServed, made_as, schema_after, schema_of, standing}
+use Rattle.store_tables.specs.internal.Tables.{club_schema, has_table}
 use Rattle.store_tables.specs.declared.names.Table as of_club
 use Rattle.store_tables.specs.declared.names.Table.TheVariants.{EventRules, Meta}
 use Rattle.store_tables.specs.declared.names.Version.{Version}
-use Rattle.store_tables.specs.declared.names.Version.TheVariants.{First, Current}
+use Rattle.store_tables.specs.declared.names.Version.TheVariants.{V1, V2, V3}
 use Rattle.store_tables.proofs.AlterLemmas.{same_by}
 use Rattle.store_tables.proofs.SameLemmas.{exactly_on, leaves_on}
 use Rattle.store_tables.proofs.PlacedCreates.{is_free}
 use Rattle.store_tables.proofs.PlacedMakes.{unused_parts}
 use Rattle.store_tables.proofs.PlacedSteps.{LeavesRoom}
-use Rattle.store_tables.proofs.PlacedOver.{at_version}
 use Rattle.store_tables.proofs.PlacedSelects.{tree_is}
 use Rattle.store_tables.proofs.PlacedTaken.{made_takes_club}
-use Rattle.store_tables.proofs.PlacedTrees.{by_club_at, in_all, one_or_none, over_at, over_club, over_past, tree_found}
+use Rattle.store_tables.proofs.PlacedTrees.{among_tables, by_club_at, in_all, one_or_none, over_at, over_club, over_past, tree_found}
 
 -- ---- contents that have the same rows of a club
 
@@ -100,24 +100,49 @@ still_beside old new kept them content k = record { clear = k.clear; exactly = k
 
 -- ---- the rows of a club among those of all tables
 
-rows_at_current : (schema : Schema) (rows content : Content) (s : State)
-    → HoldsClubAmong (record { version = Current; schema = schema; rows = rows }) content s → HasRows content s
-rows_at_current schema rows content s k =
-    let them : Neighbours = record { version = Current; schema = schema; rows = rows } in
-    let whole = over them content in (
-      schema,
-      whole,
-      k.clear.club,
-      all_from (λ table. by_club schema whole (tree_of table) ≡ content (tree_of table)) in_order (λ table has.
-          over_club them k.clear.club content table has (all_has (HasTableAt schema) in_order table k.clear.club has)),
-      k.exactly,
-    )
+pub fewer : {A : Type 0} (P : A → Type 0) (xs : List A) (m n : ℕ) → m ≤ n → AllByRecursion P (take n xs)
+    → AllByRecursion P (take m xs)
+fewer P xs zero n less all = tt
+fewer P [] (suc m) n less all = tt
+fewer P (x ∷ xs) (suc m) zero less all = absurd (omega (arith, less))
+fewer P (x ∷ xs) (suc m) (suc n) less all = (all.0, fewer P xs m n (omega (arith, less)) all.1)
 
-pub rows_beside : (them : Neighbours) (content : Content) (s : State) → them.version ≡ Current
+pub rows_in : (them : Neighbours) (content : Content) (s : State) → HoldsClubAmong them content s
+    → HasRowsIn them.version content s
+rows_in them content s k =
+    let whole = over them content in
+    record {
+      schema = them.schema;
+      whole = whole;
+      club = k.clear.club;
+      are = all_from (λ table. by_club them.schema whole (tree_of table) ≡ content (tree_of table))
+          (tables_of them.version) (λ table has. over_club them k.clear.club content table has
+          (all_has (HasTableAt them.schema) (tables_of them.version) table k.clear.club has));
+      exactly = k.exactly;
+    }
+
+-- A club of a later version has the rows of an earlier one.
+pub fewer_rows : (from to : Version) → table_count from ≤ table_count to → (content : Content) (s : State)
+    → HasRowsIn to content s → HasRowsIn from content s
+fewer_rows from to less content s k = record {
+  schema = k.schema;
+  whole = k.whole;
+  club = fewer (HasTableAt k.schema) in_order (table_count from) (table_count to) less k.club;
+  are = fewer (λ table. by_club k.schema k.whole (tree_of table) ≡ content (tree_of table)) in_order (table_count from)
+      (table_count to) less k.are;
+  exactly = k.exactly;
+}
+
+-- A club that the program serves has the rows of schema 2.
+pub served_rows : (version : Version) → IsServed version → (content : Content) (s : State)
+    → HasRowsIn version content s → HasRows content s
+served_rows V1 served content s k = absurd (true≢false (sym served))
+served_rows V2 served content s k = k
+served_rows V3 served content s k = fewer_rows V2 V3 (omega arith) content s k
+
+pub rows_beside : (them : Neighbours) (content : Content) (s : State) → IsServed them.version
     → HoldsClubAmong them content s → HasRows content s
-rows_beside them content s is =
-    at_version Current (λ them. HoldsClubAmong them content s → HasRows content s)
-    (λ schema rows. rows_at_current schema rows content s) them is
+rows_beside them content s served k = served_rows them.version served content s (rows_in them content s k)
 
 -- A table of a club keeps its rows where it stands.
 pub cells_are : (table : of_club.Table) (tree : ℕ) (r : Row) → cells (made_as table tree) r ≡ cells (standing table) r
@@ -184,55 +209,61 @@ club_held them content db club k =
     (tables_of them.version) (λ table has s. over_at them club content table has s))))
 
 -- the rows of a table of the club, where it stands
-pub rows_standing : (content : Content) (s : State) (k : HasRows content s) (table : of_club.Table)
-    → (stands : HasTableAt k.0 table) × (k.1 stands.tree ≡ content (tree_of table))
-rows_standing content s (schema, whole, club, are, exactly) table =
-    let stands = all_has (HasTableAt schema) in_order table club (in_all table) in (
+pub rows_standing : (version : Version) (content : Content) (s : State) (k : HasRowsIn version content s)
+    (table : of_club.Table) → IsTrue (has_table version table)
+    → (stands : HasTableAt k.schema table) × (k.whole stands.tree ≡ content (tree_of table))
+rows_standing version content s k table has =
+    let among = among_tables version table has in
+    let stands = all_has (HasTableAt k.schema) (tables_of version) table k.club among in (
       stands,
-      sym (by_club_at schema whole table stands)
-          ∙ all_has (λ t. by_club schema whole (tree_of t) ≡ content (tree_of t)) in_order table are (in_all table),
+      sym (by_club_at k.schema k.whole table stands)
+          ∙ all_has (λ t. by_club k.schema k.whole (tree_of t) ≡ content (tree_of t)) (tables_of version) table k.are
+          among,
     )
 
-pub rows_stored : (content : Content) (s : State) → HasRows content s → AreStored club_schema (club_trees s.now) content
-rows_stored content s k =
-    let (schema, whole, club, are, exactly) = k in
-    subst (λ d. AreStored club_schema (by_club d s.now.trees) content) (sym exactly.now.schema)
-    (each_stored schema s.now.trees whole content exactly.now.tables in_order club
-    (all_weaker (λ table. by_club schema whole (tree_of table) ≡ content (tree_of table))
-    (λ table. (stands : HasTableAt schema table) → whole stands.tree ≡ content (tree_of table))
-    (λ table is stands. sym (by_club_at schema whole table stands) ∙ is) in_order are))
+pub rows_stored : (version : Version) (content : Content) (s : State) → HasRowsIn version content s
+    → AreStored (schema_of version) (club_trees s.now) content
+rows_stored version content s k =
+    subst (AllByRecursion (λ t. Stores t (club_trees s.now) content)) (tables_are version)
+    (subst (λ d. AllByRecursion (λ t. Stores t (by_club d s.now.trees) content) (map standing (tables_of version)))
+    (sym k.exactly.now.schema)
+    (each_stored k.schema s.now.trees k.whole content k.exactly.now.tables (tables_of version) k.club
+    (all_weaker (λ table. by_club k.schema k.whole (tree_of table) ≡ content (tree_of table))
+    (λ table. (stands : HasTableAt k.schema table) → k.whole stands.tree ≡ content (tree_of table))
+    (λ table is stands. sym (by_club_at k.schema k.whole table stands) ∙ is) (tables_of version) k.are)))
 
 -- ---- the versions
 
-fewer : {A : Type 0} (P : A → Type 0) (xs : List A) (m n : ℕ) → m ≤ n → AllByRecursion P (take n xs)
-    → AllByRecursion P (take m xs)
-fewer P xs zero n less all = tt
-fewer P [] (suc m) n less all = tt
-fewer P (x ∷ xs) (suc m) zero less all = absurd (omega (arith, less))
-fewer P (x ∷ xs) (suc m) (suc n) less all = (all.0, fewer P xs m n (omega (arith, less)) all.1)
-
-fewest : (version : Version) → table_count First ≤ table_count version
-fewest First = omega arith
-fewest Current = omega arith
+fewest : (version : Version) → table_count V1 ≤ table_count version
+fewest V1 = omega arith
+fewest V2 = omega arith
+fewest V3 = omega arith
 
 -- each version has the tables of the first
-pub has_first_tables : (version : Version) (schema : Schema) → HasTables version schema → HasTables First schema
+pub has_first_tables : (version : Version) (schema : Schema) → HasTables version schema → HasTables V1 schema
 has_first_tables version schema =
-    fewer (HasTableAt schema) in_order (table_count First) (table_count version) (fewest version)
+    fewer (HasTableAt schema) in_order (table_count V1) (table_count version) (fewest version)
 
--- A schema has the tables of one version alone.
-pub versions_apart : (schema : Schema) → HasTablesOf First schema → HasTablesOf Current schema → ⊥
-versions_apart schema first current =
-    let stands = all_has (HasTableAt schema) in_order EventRules current.0 (in_all EventRules) in
+-- A schema with the tables of a served version is none of schema 1.
+pub versions_apart : (schema : Schema) (version : Version) → IsServed version → HasTablesOf V1 schema
+    → HasTables version schema → ⊥
+versions_apart schema version served first tables =
+    let stands = all_has (HasTableAt schema) (tables_of version) EventRules tables
+    (among_tables version EventRules (has_rules version served)) in
     let missing = (is_free schema (table_name EventRules) first.1.0).table in
     let is : ◌≡◌ {A = Option ℕ} (Some stands.place) None = sym stands.named ∙ missing in
     absurd (cc)
+  where
+    has_rules : (version : Version) → IsServed version → IsTrue (has_table version EventRules)
+    has_rules V1 served = absurd (true≢false (sym served))
+    has_rules V2 served = refl
+    has_rules V3 served = refl
 
 -- ---- a club alone
 
 -- In an empty database a club can be made, since every name is free.
-room_alone : LeavesRoom (schema_after 0)
-room_alone = record { trees = tt; owned = tt; unrelated = tt }
+room_alone : (version : Version) → LeavesRoom version (schema_after 0)
+room_alone version = record { trees = tt; owned = tt; unrelated = tt }
 
 -- as a test
 abbrev are_unused : List of_club.Table → Schema → Bool
@@ -255,47 +286,50 @@ pub unused_alone : AreUnused (schema_after 0) in_order
 unfolding same_name
 unused_alone = unused_by in_order (schema_after 0) refl
 
-pub alone_room : HasRoom (schema_after 0) (alone Current)
-alone_room = record {
-  version = refl;
-  trees = tt;
-  unrelated = tt;
-  unused = unused_alone;
-  is = refl;
-  bare = λ tree late. refl;
-}
-
 -- those of each version
-unused_first : (version : Version) → AreUnused (schema_after 0) (tables_of version)
+pub unused_first : (version : Version) → AreUnused (schema_after 0) (tables_of version)
 unused_first version =
-    (unused_parts (schema_after 0) (tables_of version) (later_tables version)
+    (unused_parts (schema_after 0) (tables_of version) (drop (table_count version) in_order)
     (subst (AreUnused (schema_after 0)) (sym (take-append-drop (table_count version) in_order)) unused_alone)).0
 
-made_alone : (version : Version) → made_in (schema_after 0) (tables_of version) ≡ schema_of version
-made_alone First = refl
-made_alone Current = refl
+pub made_alone : (version : Version) → made_in (schema_after 0) (tables_of version) ≡ schema_of version
+made_alone V1 = refl
+made_alone V2 = refl
+made_alone V3 = refl
+
+pub alone_room : (version : Version) → IsServed version → HasRoom (schema_after 0) (alone version)
+alone_room version served = record {
+  served = served;
+  trees = tt;
+  unrelated = tt;
+  unused = unused_first version;
+  is = sym (made_alone version);
+  bare = λ tree late. refl;
+}
 
 pub alone_takes : (version : Version) → TakesClub version (schema_of version)
 alone_takes version =
     subst (TakesClub version) (made_alone version)
-    (made_takes_club version (schema_after 0) room_alone (unused_first version) nothing (λ tree late. refl)).0
+    (made_takes_club version (schema_after 0) (room_alone version) (unused_first version) nothing (λ tree late. refl)).0
 
-unused_later : (version : Version)
-    → AllByRecursion (λ table. is_used (schema_of version) (table_name table) ≡ false) (later_tables version)
+unused_excluded : (version : Version)
+    → AllByRecursion (λ table. is_used (schema_of version) (table_name table) ≡ false) (excluded_tables version)
 unfolding same_name
-unused_later First = (refl, tt)
-unused_later Current = tt
+unused_excluded V1 = (refl, tt)
+unused_excluded V2 = tt
+unused_excluded V3 = tt
 
 -- A club that stands alone has the tables of its version.
 pub tables_alone : (version : Version) → HasTablesOf version (schema_of version)
-tables_alone version = ((alone_takes version).club, unused_later version)
+tables_alone version = ((alone_takes version).club, unused_excluded version)
 
 -- Its tables stand where the club gives them their trees.
 trees_alone : (version : Version)
     → AllByRecursion (λ table. tree_in (schema_of version) table ≡ Some (tree_of table)) (tables_of version)
 unfolding tree_in same_name
-trees_alone First = (refl, (refl, (refl, (refl, (refl, (refl, (refl, (refl, tt))))))))
-trees_alone Current = (refl, (refl, (refl, (refl, (refl, (refl, (refl, (refl, (refl, tt)))))))))
+trees_alone V1 = (refl, (refl, (refl, (refl, (refl, (refl, (refl, (refl, tt))))))))
+trees_alone V2 = (refl, (refl, (refl, (refl, (refl, (refl, (refl, (refl, (refl, tt)))))))))
+trees_alone V3 = (refl, (refl, (refl, (refl, (refl, (refl, (refl, (refl, (refl, (refl, (refl, (refl, tt))))))))))))
 
 module _ (version : Version) (content : Content) where
   abbrev rows_alone : Content

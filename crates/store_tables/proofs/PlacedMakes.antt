@@ -13,6 +13,7 @@ use Rattle.store_tables.specs.internal.Contents.{Ran}
 use Rattle.store_tables.specs.Names.{table_name}
 use Rattle.store_tables.proofs.PlacedCreated.{next_rises}
 use Rattle.store_tables.specs.Room.{AreUnused, made_in}
+use Rattle.store_tables.specs.internal.Room.{AreBare, MakesHere}
 use Rattle.store_tables.proofs.PlacedSteps.{IsEmptyFrom}
 use Rattle.store_tables.specs.Tables.{made_as}
 use Rattle.store_tables.specs.internal.Texts.{create_of}
@@ -64,14 +65,6 @@ module _ (table : of_club.Table) (schema : Schema) (unused : is_used schema (tab
             (stores_none fresh new.now.trees content (ap (λ (d : Database). d.trees fresh.tree) now ∙ empty) free, tt);
       }
 
--- Inside a transaction these tables of a club were made behind those of other programs, whose rows stay, and nothing
--- was committed.
-pub record MakesHere (tables : List of_club.Table) (old new : State) : Type 0 where
-  pub made : (schema : Schema) → AreUnused schema tables → (content : Content) → Holds schema old.now content
-      → IsEmptyFrom (next_tree schema) content → Holds (made_in schema tables) new.now content
-  pub committed : new.committed ≡ old.committed
-  pub inside : new.in_transaction ≡ true
-
 later : (schema : Schema) (table : Table) (content : Content) → IsEmptyFrom (next_tree schema) content
     → IsEmptyFrom (next_tree (created schema table)) content
 later schema table content empty n from =
@@ -85,6 +78,11 @@ made_push : (schema : Schema) (tables : List of_club.Table) (table : of_club.Tab
 made_push schema [] table = refl
 made_push schema (t ∷ tables) table = made_push (created schema (made_as t 0)) tables table
 
+pub made_parts : (schema : Schema) (tables more : List of_club.Table)
+    → made_in schema (tables ++ more) ≡ made_in (made_in schema tables) more
+made_parts schema [] more = refl
+made_parts schema (t ∷ tables) more = made_parts (created schema (made_as t 0)) tables more
+
 -- Those that are made first can be, and then the rest.
 pub unused_parts : (schema : Schema) (tables more : List of_club.Table) → AreUnused schema (tables ++ more)
     → AreUnused schema tables × AreUnused (made_in schema tables) more
@@ -93,28 +91,38 @@ unused_parts schema (t ∷ tables) more (free, stored, counted, rest) =
     let parts = unused_parts (created schema (made_as t 0)) tables more rest in
     ((free, stored, counted, parts.0), parts.1)
 
-later_all : (schema : Schema) (tables : List of_club.Table) (content : Content)
-    → IsEmptyFrom (next_tree schema) content → IsEmptyFrom (next_tree (made_in schema tables)) content
-later_all schema [] content empty = empty
-later_all schema (t ∷ tables) content empty =
-    later_all (created schema (made_as t 0)) tables content (later schema (made_as t 0) content empty)
+-- so do trees from the next one on
+pub bare_from : (tables : List of_club.Table) (schema : Schema) (content : Content)
+    → IsEmptyFrom (next_tree schema) content → AreBare schema content tables
+bare_from [] schema content empty = tt
+bare_from (t ∷ tables) schema content empty = (
+  empty (next_tree schema) (le_refl (next_tree schema)),
+  bare_from tables (created schema (made_as t 0)) content (later schema (made_as t 0) content empty),
+)
+
+bare_parts : (schema : Schema) (content : Content) (tables more : List of_club.Table)
+    → AreBare schema content (tables ++ more)
+    → AreBare schema content tables × AreBare (made_in schema tables) content more
+bare_parts schema content [] more bare = (tt, bare)
+bare_parts schema content (t ∷ tables) more bare =
+    let parts = bare_parts (created schema (made_as t 0)) content tables more bare.1 in
+    ((bare.0, parts.0), parts.1)
 
 -- one table more
 pub makes_next : (tables : List of_club.Table) (table : of_club.Table) (a b c : State) → MakesHere tables a b
     → Ran (create_of table) b c → MakesHere (tables ++ table ∷ []) a c
 makes_next tables table a b c one two = record {
-  made = λ schema unused content k empty.
+  made = λ schema unused content k bare.
       let parts = unused_parts schema tables (table ∷ []) unused in
       let (free, stored, counted, rest) = parts.1 in
-      let late = later_all schema tables content empty in
+      let bares = bare_parts schema content tables (table ∷ []) bare in
       let before = made_in schema tables in
       subst (λ s. Holds s c.now content) (sym (made_push schema tables table))
       (makes_one table before free counted b c two content
-      (one.made schema parts.0 content k empty)
-      (late (next_tree before) (le_refl (next_tree before))));
+      (one.made schema parts.0 content k bares.0) bares.1.0);
   committed = two.runs.1.committed_is ∙ one.committed;
   inside = two.runs.1.mode;
 }
 
 pub makes_no_more : (s : State) → s.in_transaction ≡ true → MakesHere [] s s
-makes_no_more s inside = record { made = λ schema unused content k empty. k; committed = refl; inside = inside }
+makes_no_more s inside = record { made = λ schema unused content k bare. k; committed = refl; inside = inside }

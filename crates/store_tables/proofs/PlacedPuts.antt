@@ -28,13 +28,15 @@ use Rattle.store_tables.specs.Cells.{SeenRow, ScoreRow, event_cells}
 use Rattle.store_tables.specs.internal.Cells.{meta_cells, member_cells, challenge_cells}
 use Rattle.store_tables.specs.Cells.{move_cells, game_cells, seen_cells}
 use Rattle.store_tables.specs.internal.Cells.{event_rule_cells, score_cells}
+use Rattle.store_tables.specs.internal.Cells.{ClosingRow, KeyRow, RulingRow, closing_cells, key_cells, ruling_cells}
 use Rattle.store_tables.specs.Content.{cells, same_key}
 use Rattle.store_tables.specs.Placed.{IsAlike, IsLeftAlone, HasTableAt, only, IsOfOthers}
 use Rattle.store_tables.specs.internal.Put.{IsPut}
 use Rattle.store_tables.specs.Tables.{made_as, standing}
 use Rattle.store_tables.specs.declared.names.Table as of_club
 use Rattle.store_tables.specs.declared.names.Table.TheVariants.{Members, Events, EventRules, Challenges, Moves, Games}
-use Rattle.store_tables.specs.declared.names.Table.TheVariants.{Seen, Scores, Meta}
+use Rattle.store_tables.specs.declared.names.Table.TheVariants.{Seen, Scores, Meta, Rulings, Closings}
+use Rattle.store_tables.specs.declared.names.Table.TheVariants as variant
 use Rattle.store_tables.proofs.Meanings.{source_of, updates_of}
 use Rattle.store_tables.proofs.PlacedSelects.{is_bare}
 use Rattle.sqlite_rules.specs.declared.action.Deed.{Deed}
@@ -163,15 +165,16 @@ module _ (table : Table) (new row : Row) where
       || list_any (shares (Some table.primary) table new row) is)
       ∙ absorbed has_key (list_any (shares (Some table.primary) table new row) is) (shared_has is alike)
 
-  -- A row meets the new one by the index of its key.
+  -- A row meets the new one by the index of its key, which is at this place among the table's indexes.
   pub meets_by_index : (is : List Index) → AllByRecursion (IsAlike table) is
-      → aims (Some table.primary) (0 ∷ []) ≡ false → slice_index_or table.orders 0 plain ≡ plain → (tree : ℕ)
-      → Has is (automatic table 0 table.primary tree) → conflicts (Some table.primary) is table new row ≡ has_key
-  meets_by_index is alike other ordered tree has =
+      → aims (Some table.primary) (0 ∷ []) ≡ false → (at : ℕ) → slice_index_or table.orders at plain ≡ plain
+      → (tree : ℕ) → Has is (automatic table at table.primary tree)
+      → conflicts (Some table.primary) is table new row ≡ has_key
+  meets_by_index is alike other at ordered tree has =
       (λ i.
       (other i && agree plain (0 ∷ []) row (0 ∷ []) new) || list_any (shares (Some table.primary) table new row) is)
       ∙ same_test (list_any (shares (Some table.primary) table new row) is) has_key (shared_has is alike)
-      (λ h. some_from (shares (Some table.primary) table new row) is (automatic table 0 table.primary tree) has
+      (λ h. some_from (shares (Some table.primary) table new row) is (automatic table at table.primary tree) has
       (and_from _ _ (and_from _ _ (eq-eqb table.tree table.tree refl)
       ((bytes_eq-Decides table.primary table.primary).1 refl))
       (subst (λ o. agree o table.primary row table.primary new ≡ true) (sym ordered) h)))
@@ -292,21 +295,21 @@ module _ (of_this : of_club.Table) (schema : Schema) (stands : HasTableAt schema
     abbrev with_rowid_first : Value → Row
     with_rowid_first v = v ∷ row
 
-    puts_by_key : aims (Some there.primary) (0 ∷ []) ≡ false → slice_get there.uniques 0 ≡ Some there.primary
-        → slice_index_or there.orders 0 plain ≡ plain → IsSourced row (Null ∷ row) with_rowid_first
+    puts_by_key : aims (Some there.primary) (0 ∷ []) ≡ false → (at : ℕ)
+        → slice_get there.uniques at ≡ Some there.primary → slice_index_or there.orders at plain ≡ plain → IsSourced row (Null ∷ row) with_rowid_first
         → ((v : Value) → cast_row there (v ∷ row) ≡ cast Integer v ∷ row)
         → Shows row (Null ∷ row) with_rowid_first
         → PutsHere schema of_this stands row
-    puts_by_key other unique ordered sourced casts shows =
-        let own = stands.guarded 0 there.primary unique in
-        let index : Index = automatic there 0 there.primary own.0 in
+    puts_by_key other at unique ordered sourced casts shows =
+        let own = stands.guarded at there.primary unique in
+        let index : Index = automatic there at there.primary own.0 in
         let guard : guards index there ≡ true = eq-eqb there.tree there.tree refl in
         let cast_as = λ (v w : Value) (is : cast Integer v ≡ w). casts v ∙ ap with_rowid_first is in
         puts row (Null ∷ row) with_rowid_first sourced (
           λ rows. (next_rowid rows, ap (with_rowid Chosen rows) (cast_as Null Null cast_null)),
           λ n. cast_as (Int n) (Int n) (cast_int n),
         ) shows
-        (λ r n. meets_by_index there (with_rowid_first (Int n)) r schema.indexes clear.alike other ordered own.0 own.1)
+        (λ r n. meets_by_index there (with_rowid_first (Int n)) r schema.indexes clear.alike other at ordered own.0 own.1)
         (λ was m id alike. refl)
         (λ next r n m keeps id found put alike.
         ap Int
@@ -343,20 +346,35 @@ game_placed r schema stands clear =
 
 pub challenge_placed : (r : ChallengeRow) → PutsAnywhere Challenges (challenge_cells r)
 challenge_placed r schema stands clear =
-    puts_by_key Challenges schema stands clear (challenge_cells r) refl refl refl (λ db rows h. h.1, refl)
+    puts_by_key Challenges schema stands clear (challenge_cells r) refl 0 refl refl (λ db rows h. h.1, refl)
     (λ v. simp (cast_int, cast_maybe_int)) (λ n. refl, λ s n. refl, λ was n. refl, λ stood was n. refl)
 
 pub move_placed : (r : MoveRow) → PutsAnywhere Moves (move_cells r)
 move_placed r schema stands clear =
-    puts_by_key Moves schema stands clear (move_cells r) refl refl refl (λ db rows h. h.1, refl)
+    puts_by_key Moves schema stands clear (move_cells r) refl 0 refl refl (λ db rows h. h.1, refl)
     (λ v. simp (cast_int)) (λ n. refl, λ s n. refl, λ was n. refl, λ stood was n. refl)
 
 pub seen_placed : (r : SeenRow) → PutsAnywhere Seen (seen_cells r)
 seen_placed r schema stands clear =
-    puts_by_key Seen schema stands clear (seen_cells r) refl refl refl (λ db rows h. h.1, refl)
+    puts_by_key Seen schema stands clear (seen_cells r) refl 0 refl refl (λ db rows h. h.1, refl)
     (λ v. simp (cast_int)) (λ n. refl, λ s n. refl, λ was n. refl, λ stood was n. refl)
 
 pub score_placed : (r : ScoreRow) → PutsAnywhere Scores (score_cells r)
 score_placed r schema stands clear =
-    puts_by_key Scores schema stands clear (score_cells r) refl refl refl (λ db rows h. h.1, refl)
+    puts_by_key Scores schema stands clear (score_cells r) refl 0 refl refl (λ db rows h. h.1, refl)
     (λ v. simp (cast_int)) (λ n. refl, λ s n. refl, λ was n. refl, λ stood was n. refl)
+
+pub key_placed : (r : KeyRow) → PutsAnywhere variant.Keys (key_cells r)
+key_placed r schema stands clear =
+    puts_by_key variant.Keys schema stands clear (key_cells r) refl 1 refl refl (λ db rows h. h.1, refl)
+    (λ v. simp (cast_int)) (λ n. refl, λ s n. refl, λ was n. refl, λ stood was n. refl)
+
+pub ruling_placed : (r : RulingRow) → PutsAnywhere Rulings (ruling_cells r)
+ruling_placed r schema stands clear =
+    puts_by_key Rulings schema stands clear (ruling_cells r) refl 0 refl refl (λ db rows h. h.1, refl)
+    (λ v. simp (cast_int, cast_maybe_text)) (λ n. refl, λ s n. refl, λ was n. refl, λ stood was n. refl)
+
+pub closing_placed : (r : ClosingRow) → PutsAnywhere Closings (closing_cells r)
+closing_placed r schema stands clear =
+    puts_by_id Closings schema stands clear r.event (drop 1 (closing_cells r)) refl (λ db rows h. h.1, refl)
+    (simp (cast_null, cast_int)) (λ n. refl, λ s n. refl, λ was n. refl, λ stood was n. refl) (λ s. refl)

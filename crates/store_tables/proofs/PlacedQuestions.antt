@@ -12,6 +12,7 @@ use Rattle.store_tables.specs.Tables.{made_as}
 use Rattle.store_tables.specs.internal.Texts.{name_at, names_of, question_text}
 use Rattle.store_tables.specs.declared.names.Table as of_club
 use Rattle.store_tables.specs.declared.names.Table.TheVariants.{Members, Events, Challenges, Moves, Games, Seen, Scores}
+use Rattle.store_tables.specs.declared.names.Table.TheVariants.{Keys}
 use Rattle.store_tables.proofs.PlacedSelects.{hows, Picks, all_shown, as_given, columns_of, is_bare, is_found}
 use Rattle.store_tables.proofs.PlacedQueries.{Asked, asked_of}
 use Rattle.store_tables.proofs.PlacedTexts.{meant_so, IsMeant, command_is, plain_is, unlisted_is}
@@ -75,6 +76,12 @@ unfolding everything first_key
 games_by_key_placed a =
     asks Games (1 ∷ []) (Null ∷ Text a ∷ []) (Text a ∷ []) (λ tree.
     meant_so _ _ _ _ _ _ _ (hows (made_as Games tree)) refl refl refl refl (λ place tree. refl) refl) (λ tree r. refl)
+
+pub keys_by_key_placed : (a : List ℕ) → AsksAnywhere Keys (2 ∷ []) (Null ∷ Null ∷ Text a ∷ []) (Text a ∷ [])
+unfolding everything first_key
+keys_by_key_placed a =
+    asks Keys (2 ∷ []) (Null ∷ Null ∷ Text a ∷ []) (Text a ∷ []) (λ tree.
+    meant_so _ _ _ _ _ _ _ (hows (made_as Keys tree)) refl refl refl refl (λ place tree. refl) refl) (λ tree r. refl)
 
 pub challenges_by_number_placed : (a b : ℤ)
     → AsksAnywhere Challenges (0 ∷ 1 ∷ []) (Int a ∷ Int b ∷ []) (Int a ∷ Int b ∷ [])

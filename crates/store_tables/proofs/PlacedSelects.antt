@@ -13,7 +13,7 @@ use Rattle.store_tables.specs.Tables.{made_as}
 use Rattle.store_tables.specs.internal.Texts.{names_of, id_name, key_names, all_text, ids_text, by_first_text}
 use Rattle.store_tables.specs.internal.Texts.{last_text}
 use Rattle.store_tables.specs.declared.names.Table as of_club
-use Rattle.store_tables.specs.declared.names.Table.TheVariants.{Meta}
+use Rattle.store_tables.specs.declared.names.Table.TheVariants.{Closings, Keys, Meta, Rulings}
 use Rattle.store_tables.proofs.PlacedTexts.{IsFound, command_is, plain_is, stored, unlisted_is, IsMeant, meant_so}
 use Rattle.std.specs.List.{range_with_len, list_all}
 use Rattle.sqlite_tied.specs.Compute.{everything}
@@ -125,6 +125,51 @@ abbrev pub hows : Table → List (Option Collation)
 hows table =
     map (λ at. if is_key table.key at then None else Some Binary) (range_with_len 0 (length table.columns))
 
+keys_meant : (tree : ℕ) → AreMeant (made_as Keys tree)
+unfolding everything first_key
+keys_meant tree =
+    let table = made_as Keys tree in
+    record {
+      all = meant_so table (all_asked table) _ _ _ _ _ (hows table) refl refl refl refl (λ place tree. refl) refl;
+      last = meant_so table (last_asked table) _ _ _ _ _ (hows table) refl refl refl refl (λ place tree. refl) refl;
+      ids = meant_so table (ids_asked table) _ _ _ _ _ (None ∷ []) refl refl refl refl (λ place tree. refl) refl;
+      group = meant_so table (group_asked table) _ _ _ _ _ (hows table) refl refl refl refl (λ place tree. refl) refl;
+      by_all = λ r s. refl;
+      by_last = λ r s. refl;
+      by_rest = λ n r s. refl;
+      picks = λ n r. refl;
+    }
+
+rulings_meant : (tree : ℕ) → AreMeant (made_as Rulings tree)
+unfolding everything first_key
+rulings_meant tree =
+    let table = made_as Rulings tree in
+    record {
+      all = meant_so table (all_asked table) _ _ _ _ _ (hows table) refl refl refl refl (λ place tree. refl) refl;
+      last = meant_so table (last_asked table) _ _ _ _ _ (hows table) refl refl refl refl (λ place tree. refl) refl;
+      ids = meant_so table (ids_asked table) _ _ _ _ _ (None ∷ []) refl refl refl refl (λ place tree. refl) refl;
+      group = meant_so table (group_asked table) _ _ _ _ _ (hows table) refl refl refl refl (λ place tree. refl) refl;
+      by_all = λ r s. refl;
+      by_last = λ r s. refl;
+      by_rest = λ n r s. refl;
+      picks = λ n r. refl;
+    }
+
+closings_meant : (tree : ℕ) → AreMeant (made_as Closings tree)
+unfolding everything first_key
+closings_meant tree =
+    let table = made_as Closings tree in
+    record {
+      all = meant_so table (all_asked table) _ _ _ _ _ (hows table) refl refl refl refl (λ place tree. refl) refl;
+      last = meant_so table (last_asked table) _ _ _ _ _ (hows table) refl refl refl refl (λ place tree. refl) refl;
+      ids = meant_so table (ids_asked table) _ _ _ _ _ (None ∷ []) refl refl refl refl (λ place tree. refl) refl;
+      group = meant_so table (group_asked table) _ _ _ _ _ (hows table) refl refl refl refl (λ place tree. refl) refl;
+      by_all = λ r s. refl;
+      by_last = λ r s. refl;
+      by_rest = λ n r s. refl;
+      picks = λ n r. refl;
+    }
+
 pub are_meant : (of_this : of_club.Table) (tree : ℕ) → AreMeant (made_as of_this tree)
 unfolding everything first_key
 are_meant Meta tree =
@@ -139,6 +184,9 @@ are_meant Meta tree =
       by_rest = λ n r s. refl;
       picks = λ n r. refl;
     }
+are_meant Keys tree = keys_meant tree
+are_meant Rulings tree = rulings_meant tree
+are_meant Closings tree = closings_meant tree
 are_meant of_this tree =
     let table = made_as of_this tree in
     record {

@@ -62,15 +62,15 @@ sound_stored schema db sound table has =
 -- ---- no two rows have one key
 
 -- Of a sound database no row of a club's table has the UNIQUE key of another.
-pub unique_here : (schema : Schema) (trees : Trees) → IsSound schema trees → (table : of_club.Table)
-    (s : HasTableAt schema table) (key : List ℕ) → slice_get (made_as table s.tree).uniques 0 ≡ Some key
-    → slice_index_or (made_as table s.tree).orders 0 plain ≡ plain
+pub unique_at : (schema : Schema) (trees : Trees) → IsSound schema trees → (table : of_club.Table)
+    (s : HasTableAt schema table) (at : ℕ) (key : List ℕ) → slice_get (made_as table s.tree).uniques at ≡ Some key
+    → slice_index_or (made_as table s.tree).orders at plain ≡ plain
     → (r : Row) → Has (by_club schema trees (tree_of table)) r
     → clashes plain key (by_club schema trees (tree_of table)) r ≡ false
-unique_here schema trees sound table s key unique ordered r =
+unique_at schema trees sound table s place key unique ordered r =
     let there : Table = made_as table s.tree in
-    let own = s.guarded 0 key unique in
-    let index : Index = automatic there 0 key own.0 in
+    let own = s.guarded place key unique in
+    let index : Index = automatic there place key own.0 in
     let guard : guards index there ≡ true = eq-eqb there.tree there.tree refl in
     let listed : Has schema.tables there = has_got schema.tables s.place there s.at in
     let at : trees there.tree ≡ by_club schema trees (tree_of table) =
@@ -81,3 +81,10 @@ unique_here schema trees sound table s key unique ordered r =
     (keeps_at Unique schema trees there r (sound.obeys.rules Unique) listed has) own.1 in
     subst (λ o. clashes o key (trees there.tree) r ≡ false) ordered
     (subst (λ g. (g && clashes index.order index.columns (trees there.tree) r) ≡ false) guard (not-true _ passes)))
+
+pub unique_here : (schema : Schema) (trees : Trees) → IsSound schema trees → (table : of_club.Table)
+    (s : HasTableAt schema table) (key : List ℕ) → slice_get (made_as table s.tree).uniques 0 ≡ Some key
+    → slice_index_or (made_as table s.tree).orders 0 plain ≡ plain
+    → (r : Row) → Has (by_club schema trees (tree_of table)) r
+    → clashes plain key (by_club schema trees (tree_of table)) r ≡ false
+unique_here schema trees sound table s = unique_at schema trees sound table s 0

@@ -19,7 +19,6 @@ use Rattle.store_tables.specs.Tables.{made_as, standing}
 use Rattle.store_tables.specs.internal.Texts.{put_text}
 use Rattle.store_tables.specs.declared.names.Table as of_club
 use Rattle.store_tables.specs.declared.names.Table.TheVariants.{Meta}
-use Rattle.store_tables.specs.declared.names.Version.TheVariants.{Current}
 use Rattle.store_tables.proofs.Meanings.{source_of, updates_of}
 use Rattle.store_tables.proofs.PlacedPuts.{PutsAnywhere, same_test, key_of}
 use Rattle.store_tables.proofs.PlacedSelects.{is_found, name_is, tree_is}
@@ -52,12 +51,12 @@ abbrev pub KeepsOthers : (version : Version) (schema : Schema) → HasTables ver
 KeepsOthers version schema club old new = (n : ℕ)
     → EachStanding schema (λ table stands. (n == stands.tree) ≡ false) (tables_of version) club → new n ≡ old n
 
--- Inside a transaction the rows of the club changed so, wherever its tables stand, and nothing was committed.
-pub record StepsHere (change : Content → Content) (old new : State) : Type 0 where
-  pub holds : (schema : Schema) (takes : TakesClub Current schema) (whole content : Content)
-      → Holds schema old.now whole → AreHere Current schema takes.club whole content
-      → (next : Content) × Holds schema new.now next × AreHere Current schema takes.club next (change content)
-      × KeepsOthers Current schema takes.club whole next
+-- Inside a transaction the rows of a club of this version changed so, wherever its tables stand, and nothing was committed.
+pub record StepsHere (version : Version) (change : Content → Content) (old new : State) : Type 0 where
+  pub holds : (schema : Schema) (takes : TakesClub version schema) (whole content : Content)
+      → Holds schema old.now whole → AreHere version schema takes.club whole content
+      → (next : Content) × Holds schema new.now next × AreHere version schema takes.club next (change content)
+      × KeepsOthers version schema takes.club whole next
   pub committed : new.committed ≡ old.committed
   pub inside : new.in_transaction ≡ true
 
@@ -69,12 +68,12 @@ IsEmptyFrom tree content = (n : ℕ) → tree ≤ n → content n ≡ []
 abbrev pub IsOwned : Schema → Index → Type 0
 IsOwned schema index = (table : Table) × Has schema.tables table × (index.table ≡ table.tree)
 
--- A schema in which a club can be made: no two tables have one tree, each index is of one of them, and no FOREIGN KEY
--- names a table of a club.
-pub record LeavesRoom (schema : Schema) : Type 0 where
+-- A schema in which a club of this version can be made: no two tables have one tree, each index is of one of them, and
+-- no FOREIGN KEY names a table of a club.
+pub record LeavesRoom (version : Version) (schema : Schema) : Type 0 where
   pub trees : IsAscending (λ (a b : Table). a.tree ≡ b.tree → ⊥) schema.tables
   pub owned : AllByRecursion (IsOwned schema) schema.indexes
-  pub unrelated : AllByRecursion IsUnrelated schema.tables
+  pub unrelated : AllByRecursion (IsUnrelated version) schema.tables
 
 -- ---- a table is known by its name, and by the club's number
 
@@ -255,12 +254,12 @@ module _ (schema : Schema) (apart : IsAscending (λ (a b : Table). a.tree ≡ b.
   }
 
 -- The text of a table, run inside a transaction, puts the row into the club's table wherever it stands.
-pub put_row_here : (table : of_club.Table) → Has (tables_of Current) table → (row : Row) → PutsAnywhere table row
+pub put_row_here : (version : Version) (table : of_club.Table) → Has (tables_of version) table → (row : Row) → PutsAnywhere table row
     → (old new : State) (count : ℕ) → ExecutesInside 0 (put_text (standing table)) row old new (Ok count)
-    → StepsHere (put_in (tree_of table) (key_of table) row) old new
-put_row_here table listed row is_put old new count h = record {
+    → StepsHere version (put_in (tree_of table) (key_of table) row) old new
+put_row_here version table listed row is_put old new count h = record {
   holds = λ schema takes whole content k are.
-      let found = each_has schema (λ t s. IsLeftAlone schema (made_as t s.tree)) (tables_of Current) takes.club
+      let found = each_has schema (λ t s. IsLeftAlone schema (made_as t s.tree)) (tables_of version) takes.club
       takes.clear table listed in
       let stands = found.0 in
       let steps = subst (λ n. Steps schema (put_in n (key_of table) row) old new) (tree_is table stands.tree)
@@ -268,9 +267,9 @@ put_row_here table listed row is_put old new count h = record {
       (subst (λ text. ExecutesInside 0 text row old new (Ok count)) (same_text table stands.tree) h)) in (
         put_in stands.tree (key_of table) row whole,
         steps.holds whole k,
-        put_here schema (tables_of Current) takes.club whole content are table stands (key_of table) row,
+        put_here schema (tables_of version) takes.club whole content are table stands (key_of table) row,
         λ n apart.
-            let there = each_at schema (λ t m. (n == m) ≡ false) (tables_of Current) takes.club apart table listed
+            let there = each_at schema (λ t m. (n == m) ≡ false) (tables_of version) takes.club apart table listed
             stands in
             λ i. if there i then put (key_of table) row (whole n) else whole n,
       );

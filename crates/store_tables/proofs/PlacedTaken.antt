@@ -23,17 +23,16 @@ use Rattle.sqlite_schema.specs.declared.schema.Reference.{Reference}
 use Rattle.sqlite_value.specs.Keys.{plain}
 use Rattle.sqlite_value.specs.declared.keys.Order.{Order}
 use Rattle.store_tables.specs.Contents.{Content, nothing}
-use Rattle.store_tables.specs.Names.{in_order, table_name, tree_of}
+use Rattle.store_tables.specs.Names.{table_name, tree_of}
 use Rattle.store_tables.specs.Placed.{HasTables, IsAlike, IsLeftAlone, IsOfOthers, HasTableAt, TakesClub, only, tables_of}
 use Rattle.store_tables.proofs.PlacedCreates.{is_free}
 use Rattle.store_tables.specs.Room.{AreUnused, IsNoName, IsUnrelated, made_in}
 use Rattle.store_tables.proofs.PlacedSteps.{AreHere, IsEmptyFrom, IsOwned, LeavesRoom, each_from, one_tree}
 use Rattle.store_tables.specs.Tables.{indexes_of, made_as}
 use Rattle.store_tables.specs.declared.names.Table as of_club
-use Rattle.store_tables.specs.declared.names.Table.TheVariants.{Members, Events, EventRules, Games, Meta}
+use Rattle.store_tables.specs.declared.names.Table.TheVariants.{Closings, EventRules, Events, Games, Keys, Members, Meta}
 use Rattle.store_tables.specs.declared.names.Version.{Version}
 use Rattle.store_tables.proofs.PlacedSelects.{name_is, tree_is}
-use Rattle.store_tables.proofs.PlacedTrees.{in_all}
 use Rattle.sqlite_trees.proofs.ListLemmas.{all-append, all_both, all_weaker}
 use Rattle.store_tables.proofs.PlacedCreated.{apart, find_none, grown, next_rises, same_table, stands_grown}
 use Rattle.store_tables.proofs.PlacedCreated.{stands_kept}
@@ -49,11 +48,11 @@ plain_orders : (table : of_club.Table) (tree : ℕ)
 plain_orders Meta tree = refl
 plain_orders _ tree = refl
 
-other_name : (table : of_club.Table) (tree : ℕ) (name : List ℕ) → IsNoName name
-    → same_name (made_as table tree).name name ≡ false
-other_name table tree name none =
+other_name : (version : Version) (table : of_club.Table) → Has (tables_of version) table → (tree : ℕ) (name : List ℕ)
+    → IsNoName version name → same_name (made_as table tree).name name ≡ false
+other_name version table listed tree name none =
     subst (λ n. same_name n name ≡ false) (sym (name_is table tree))
-    (all_has (λ u. same_name (table_name u) name ≡ false) in_order table none (in_all table))
+    (all_has (λ u. same_name (table_name u) name ≡ false) (tables_of version) table none listed)
 
 all_plain : (keys : List (List ℕ)) (at : ℕ) → slice_index_or (map (λ key. plain) keys) at plain ≡ plain
 all_plain [] at = refl
@@ -76,7 +75,8 @@ IsElsewhere parent key = IfSome key (λ k. AllByRecursion (λ (t : Table). (k.0 
 
 -- ---- a table of a club more
 
-module _ (schema : Schema) (room : LeavesRoom schema) (table : of_club.Table) where
+module _ (version : Version) (schema : Schema) (room : LeavesRoom version schema) (table : of_club.Table)
+    (listed : Has (tables_of version) table) where
   abbrev tree : ℕ
   tree = next_tree schema
 
@@ -99,7 +99,7 @@ module _ (schema : Schema) (room : LeavesRoom schema) (table : of_club.Table) wh
   refers_to_none : (P : Reference → Type 0) → AllByRecursion P new.references
   refers_to_none P = subst (AllByRecursion P) (sym (no_references table tree)) tt
 
-  leaves_room : LeavesRoom more
+  leaves_room : LeavesRoom version more
   leaves_room = record {
     trees = ascending_push (λ (a b : Table). a.tree ≡ b.tree → ⊥) schema.tables new room.trees
         (λ t has same. true≢false (sym (eq-eqb t.tree new.tree same) ∙ below t has));
@@ -108,8 +108,8 @@ module _ (schema : Schema) (room : LeavesRoom schema) (table : of_club.Table) wh
         (λ i it. (it.0, has_left schema.tables (new ∷ []) it.0 it.1, it.2)) schema.indexes room.owned)
         (all_weaker (IsPlainOf new) (IsOwned more)
         (λ i it. (new, has_right schema.tables (new ∷ []) new (inl refl), it.0)) (indexes_of new) new_plain);
-    unrelated = all-append IsUnrelated schema.tables (new ∷ []) room.unrelated
-        (refers_to_none (λ ref. IsNoName ref.parent), tt);
+    unrelated = all-append (IsUnrelated version) schema.tables (new ∷ []) room.unrelated
+        (refers_to_none (λ ref. IsNoName version ref.parent), tt);
   }
 
   -- ---- the parents of FOREIGN KEYs
@@ -124,12 +124,12 @@ module _ (schema : Schema) (room : LeavesRoom schema) (table : of_club.Table) wh
   no_more None = refl
   no_more (Some t) = refl
 
-  parent_kept : (ref : Reference) → IsNoName ref.parent → parent_key more.tables ref ≡ parent_key schema.tables ref
+  parent_kept : (ref : Reference) → IsNoName version ref.parent → parent_key more.tables ref ≡ parent_key schema.tables ref
   parent_kept ref unrelated =
       ap (key_of ref)
       (find-append (is_parent ref) schema.tables (new ∷ [])
       ∙ (λ i. option_or (find (is_parent ref) schema.tables)
-      (cond (other_name table tree ref.parent unrelated i) (Some new) None))
+      (cond (other_name version table listed tree ref.parent unrelated i) (Some new) None))
       ∙ no_more (find (is_parent ref) schema.tables))
 
   -- no FOREIGN KEY refers to the new table
@@ -153,11 +153,11 @@ module _ (schema : Schema) (room : LeavesRoom schema) (table : of_club.Table) wh
   new_childless : AllByRecursion (HasNoChild more.tables new) more.tables
   new_childless =
       all-append (HasNoChild more.tables new) schema.tables (new ∷ [])
-      (all_weaker IsUnrelated (HasNoChild more.tables new)
-      (λ t. all_weaker (λ (ref : Reference). IsNoName ref.parent) (IsOfOthers (only new) more.tables) refers
+      (all_weaker (IsUnrelated version) (HasNoChild more.tables new)
+      (λ t. all_weaker (λ (ref : Reference). IsNoName version ref.parent) (IsOfOthers (only new) more.tables) refers
       t.references) schema.tables room.unrelated) (refers_to_none (IsOfOthers (only new) more.tables), tt)
     where
-      refers : (ref : Reference) → IsNoName ref.parent → IsOfOthers (only new) more.tables ref
+      refers : (ref : Reference) → IsNoName version ref.parent → IsOfOthers (only new) more.tables ref
       refers ref unrelated =
           subst (IsElsewhere new) (sym (parent_kept ref unrelated))
           (no_parent ref (find (is_parent ref) schema.tables)
@@ -213,7 +213,7 @@ module _ (schema : Schema) (room : LeavesRoom schema) (table : of_club.Table) wh
         (find (is_key_at old old.primary) schema.indexes) (find (is_key_at old old.primary) (indexes_of new))
         clear.keyed
 
-    still_others : (ref : Reference) → IsNoName ref.parent → IsOfOthers (only old) schema.tables ref
+    still_others : (ref : Reference) → IsNoName version ref.parent → IsOfOthers (only old) schema.tables ref
         → IsOfOthers (only old) more.tables ref
     still_others ref unrelated = subst (IsElsewhere old) (sym (parent_kept ref unrelated))
 
@@ -223,8 +223,8 @@ module _ (schema : Schema) (room : LeavesRoom schema) (table : of_club.Table) wh
       alike = all-append (IsAlike old) schema.indexes (indexes_of new) clear.alike
           (all_weaker (IsPlainOf new) (IsAlike old) (λ i is h. is.1) (indexes_of new) new_plain);
       childless = all-append (HasNoChild more.tables old) schema.tables (new ∷ [])
-          (all_both IsUnrelated (HasNoChild schema.tables old) (HasNoChild more.tables old)
-          (λ t. all_both (λ (ref : Reference). IsNoName ref.parent) (IsOfOthers (only old) schema.tables)
+          (all_both (IsUnrelated version) (HasNoChild schema.tables old) (HasNoChild more.tables old)
+          (λ t. all_both (λ (ref : Reference). IsNoName version ref.parent) (IsOfOthers (only old) schema.tables)
           (IsOfOthers (only old) more.tables) still_others t.references)
           schema.tables room.unrelated clear.childless)
           (refers_to_none (IsOfOthers (only old) more.tables), tt);
@@ -232,21 +232,31 @@ module _ (schema : Schema) (room : LeavesRoom schema) (table : of_club.Table) wh
 
 -- ---- the key of each table
 
-new_keyed : (schema : Schema) (room : LeavesRoom schema) (table : of_club.Table)
-    → key_at (more schema room table) (made_as table (next_tree schema)) (made_as table (next_tree schema)).primary
-    ≡ Ok (made_as table (next_tree schema)).primary
+new_keyed : (version : Version) (schema : Schema) (room : LeavesRoom version schema) (table : of_club.Table)
+    (listed : Has (tables_of version) table)
+    → key_at (more version schema room table listed) (made_as table (next_tree schema))
+    (made_as table (next_tree schema)).primary ≡ Ok (made_as table (next_tree schema)).primary
 unfolding key_at is_key_at
-new_keyed schema room Meta = refl
-new_keyed schema room Members = refl
-new_keyed schema room Events = refl
-new_keyed schema room Games = refl
-new_keyed schema room EventRules = refl
-new_keyed schema room table =
+new_keyed version schema room Meta listed = refl
+new_keyed version schema room Members listed = refl
+new_keyed version schema room Events listed = refl
+new_keyed version schema room Games listed = refl
+new_keyed version schema room EventRules listed = refl
+new_keyed version schema room Closings listed = refl
+new_keyed version schema room Keys listed =
+    let new = made_as Keys (next_tree schema) in
+    let index = automatic new 1 new.primary (new.tree + 1 + 1) in
+    let other = automatic new 0 (3 ∷ []) (new.tree + 1) in
+    let own : find (is_key version schema room Keys listed) (indexes_of new) ≡ Some index =
+    λ i. cond (((eq-eqb new.tree new.tree refl i && false) && false) && false) (Some other)
+    (cond (((eq-eqb new.tree new.tree refl i && true) && true) && true) (Some index) None) in
+    λ i. or_else (option_map (λ (j : Index). j.columns) (key_by version schema room Keys listed index own i)) Misuse
+new_keyed version schema room table listed =
     let new = made_as table (next_tree schema) in
     let index = automatic new 0 new.primary (new.tree + 1) in
-    let own : find (is_key schema room table) (indexes_of new) ≡ Some index =
+    let own : find (is_key version schema room table listed) (indexes_of new) ≡ Some index =
     λ i. cond (((eq-eqb new.tree new.tree refl i && true) && true) && true) (Some index) None in
-    λ i. or_else (option_map (λ (j : Index). j.columns) (key_by schema room table index own i)) Misuse
+    λ i. or_else (option_map (λ (j : Index). j.columns) (key_by version schema room table listed index own i)) Misuse
 
 -- ---- a club that is made
 
@@ -256,11 +266,12 @@ pub record Taken (start : ℕ) (schema : Schema) (table : of_club.Table) : Type 
   pub clear : IsLeftAlone schema (made_as table stands.tree)
   pub late : start ≤ stands.tree
 
-module _ (start : ℕ) (schema : Schema) (room : LeavesRoom schema) (table : of_club.Table) where
+module _ (version : Version) (start : ℕ) (schema : Schema) (room : LeavesRoom version schema) (table : of_club.Table)
+    (listed : Has (tables_of version) table) where
   abbrev after : Schema
   after = created schema (made_as table 0)
 
-  same_schema : more schema room table ≡ after
+  same_schema : more version schema room table listed ≡ after
   same_schema = ap (grown schema) (sym (same_table table (next_tree schema)))
 
   taken_new : start ≤ next_tree schema → table_named schema (table_name table) ≡ None
@@ -268,9 +279,9 @@ module _ (start : ℕ) (schema : Schema) (room : LeavesRoom schema) (table : of_
   taken_new late free stored = subst (λ s. Taken start s table) same_schema (record {
     stands = stands_grown schema table free stored;
     clear = record {
-      keyed = new_keyed schema room table;
-      alike = new_alike schema room table;
-      childless = new_childless schema room table;
+      keyed = new_keyed version schema room table listed;
+      alike = new_alike version schema room table listed;
+      childless = new_childless version schema room table listed;
     };
     late = late;
   })
@@ -278,37 +289,44 @@ module _ (start : ℕ) (schema : Schema) (room : LeavesRoom schema) (table : of_
   taken_on : (old : of_club.Table) → Taken start schema old → Taken start after old
   taken_on old taken = subst (λ s. Taken start s old) same_schema (record {
     stands = stands_kept schema (made_as table (next_tree schema)) old taken.stands;
-    clear = old_left_alone schema room table (made_as old taken.stands.tree) taken.clear;
+    clear = old_left_alone version schema room table listed (made_as old taken.stands.tree) taken.clear;
     late = taken.late;
   })
 
-  room_after : LeavesRoom after
-  room_after = subst LeavesRoom same_schema (leaves_room schema room table)
+  room_after : LeavesRoom version after
+  room_after = subst (LeavesRoom version) same_schema (leaves_room version schema room table listed)
 
   still_late : start ≤ next_tree schema → start ≤ next_tree after
   still_late late =
       let rises = next_rises schema (made_as table 0) in
       omega (arith, late, rises)
 
-module _ (start : ℕ) where
-  taken_still : (tables : List of_club.Table) (schema : Schema) → LeavesRoom schema → (old : of_club.Table)
+-- each of these tables is one of a club of this version
+abbrev AreListed : Version → List of_club.Table → Type 0
+AreListed version tables = AllByRecursion (Has (tables_of version)) tables
+
+module _ (version : Version) (start : ℕ) where
+  taken_still : (tables : List of_club.Table) → AreListed version tables → (schema : Schema)
+      → LeavesRoom version schema → (old : of_club.Table)
       → Taken start schema old → Taken start (made_in schema tables) old
-  taken_still [] schema room old taken = taken
-  taken_still (table ∷ tables) schema room old taken =
-      taken_still tables (created schema (made_as table 0)) (room_after start schema room table) old
-      (taken_on start schema room table old taken)
+  taken_still [] listed schema room old taken = taken
+  taken_still (table ∷ tables) listed schema room old taken =
+      taken_still tables listed.1 (created schema (made_as table 0))
+      (room_after version start schema room table listed.0) old
+      (taken_on version start schema room table listed.0 old taken)
 
   -- Where there is room each table is taken, and there is room still.
-  pub all_taken : (tables : List of_club.Table) (schema : Schema) → LeavesRoom schema → AreUnused schema tables
-      → start ≤ next_tree schema
-      → AllByRecursion (Taken start (made_in schema tables)) tables × LeavesRoom (made_in schema tables)
-  all_taken [] schema room free late = (tt, room)
-  all_taken (table ∷ tables) schema room (free, stored, counted, rest) late =
+  pub all_taken : (tables : List of_club.Table) → AreListed version tables → (schema : Schema)
+      → LeavesRoom version schema → AreUnused schema tables → start ≤ next_tree schema
+      → AllByRecursion (Taken start (made_in schema tables)) tables × LeavesRoom version (made_in schema tables)
+  all_taken [] listed schema room free late = (tt, room)
+  all_taken (table ∷ tables) listed schema room (free, stored, counted, rest) late =
       let next = created schema (made_as table 0) in
-      let its = room_after start schema room table in
-      let new = taken_new start schema room table late (is_free schema (table_name table) free).table stored in
-      let more = all_taken tables next its rest (still_late start schema room table late) in
-      ((taken_still tables next its table new, more.0), more.1)
+      let its = room_after version start schema room table listed.0 in
+      let unused = (is_free schema (table_name table) free).table in
+      let new = taken_new version start schema room table listed.0 late unused stored in
+      let more = all_taken tables listed.1 next its rest (still_late version start schema room table listed.0 late) in
+      ((taken_still tables listed.1 next its table new, more.0), more.1)
 
 -- a club of this version that takes its rows, and has none
 abbrev pub TakesNone : Version → Content → Schema → Type 0
@@ -316,13 +334,14 @@ TakesNone version whole schema =
     (takes : TakesClub version schema) × AreHere version schema takes.club whole nothing
 
 -- A club that is made where there is room takes its rows, and has none at first.
-pub made_takes_club : (version : Version) (schema : Schema) → LeavesRoom schema → AreUnused schema (tables_of version)
+pub made_takes_club : (version : Version) (schema : Schema) → LeavesRoom version schema → AreUnused schema (tables_of version)
     → (whole : Content) → IsEmptyFrom (next_tree schema) whole
     → TakesNone version whole (made_in schema (tables_of version))
 made_takes_club version schema room free whole empty =
     let start = next_tree schema in
     let made = made_in schema (tables_of version) in
-    let all = all_taken start (tables_of version) schema room free (le_refl start) in
+    let listed = all_from (Has (tables_of version)) (tables_of version) (λ table has. has) in
+    let all = all_taken version start (tables_of version) listed schema room free (le_refl start) in
     let taken = all.0 in
     let club : HasTables version made =
     all_weaker (Taken start made) (HasTableAt made) (λ table it. it.stands) (tables_of version) taken in

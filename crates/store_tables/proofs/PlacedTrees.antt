@@ -1,17 +1,22 @@
 -- The rows of a club by its own numbers, and where they stand.
 use Rattle.std.proofs.Common.{true, ◌≡◌, ℕ, ◌==◌, Bool, false, List, [], ◌∷◌, Some, None, refl, sym, ap, ◌∙◌, inl, inr}
-use Rattle.std.proofs.Common.{◌⊎◌, true≢false, if◌then◌else◌, eq-eqb, eqb-true}
+use Rattle.std.proofs.Common.{◌⊎◌, true≢false, if◌then◌else◌, eq-eqb, eqb-true, IsTrue, arith, slice_get, take, zero, suc}
+use Rattle.std.proofs.Common.{◌<◌, nat_lt}
 use Rattle.std.proofs.lemmas.Bool.{cases_Bool}
+use Rattle.std.proofs.lemmas.Grind.{common_steps}
 use Rattle.std.specs.List.{AllByRecursion}
 use Rattle.sqlite_rules.proofs.ListLemmas.{has_found}
 use Rattle.store_tables.specs.Sql.{Schema, Has}
 use Rattle.sqlite_schema.specs.Names.{table_named}
 use Rattle.store_tables.specs.Contents.{Content}
-use Rattle.store_tables.specs.Names.{in_order, table_name, tree_of}
+use Rattle.store_tables.specs.Names.{in_order, table_count, table_name, tree_of}
+use Rattle.store_tables.specs.internal.Names.{place_of}
+use Rattle.store_tables.specs.internal.Tables.{has_table}
 use Rattle.store_tables.specs.Over.{Neighbours, is_tree, over, over_each}
 use Rattle.store_tables.specs.Placed.{HasTableAt, HasTables, by_club, rows_at, tables_of, tree_at, tree_in, tree_of_found}
 use Rattle.store_tables.specs.declared.names.Table as of_club
 use Rattle.store_tables.specs.declared.names.Table.TheVariants.{Meta}
+use Rattle.store_tables.specs.declared.names.Version.{Version}
 use Rattle.store_tables.proofs.PlacedSelects.{tree_is}
 use Rattle.store_tables.proofs.PlacedSteps.{numbered_back, two_tables}
 
@@ -83,9 +88,32 @@ module _ (schema : Schema) (club others : Content) where
       (λ i. if past.0 i then club (tree_of t) else over_each schema tables club others n)
       ∙ past_each tables n past.1
 
+-- the table at its place
+pub at_place : (table : of_club.Table) → slice_get in_order (place_of table) ≡ Some table
+at_place Meta = refl
+at_place _ = refl
+
+-- an element at a place is among the first so many
+has_taken : (tables : List of_club.Table) (n at : ℕ) (table : of_club.Table) → slice_get tables at ≡ Some table
+    → at < n → Has (take n tables) table
+has_taken [] n at table is less = absurd (cc)
+has_taken (t ∷ tables) zero at table is less = absurd (omega (arith, less))
+has_taken (t ∷ tables) (suc n) zero table is less = inl (cc)
+has_taken (t ∷ tables) (suc n) (suc at) table is less = inr (has_taken tables n at table is (omega (arith, less)))
+
 -- each table of a club is one of them
 pub in_all : (table : of_club.Table) → Has in_order table
 in_all table = (has_found (λ t. tree_of t == tree_of table) in_order table (numbered_back table)).0
+
+less_of : (m n : ℕ) → nat_lt m n ≡ true → m < n
+less_of m n less = grind (arith, common_steps)
+
+-- and it is one of those of a version that has it
+pub among_tables : (version : Version) (table : of_club.Table) → IsTrue (has_table version table)
+    → Has (tables_of version) table
+among_tables version table has =
+    has_taken in_order (table_count version) (place_of table) table (at_place table)
+    (less_of (place_of table) (table_count version) has)
 
 module _ (them : Neighbours) (club : HasTables them.version them.schema) (content : Content) where
   pub over_at : (table : of_club.Table) → Has (tables_of them.version) table → (stands : HasTableAt them.schema table)

@@ -17,7 +17,8 @@ use Rattle.sqlite_resolve.specs.declared.error.CompileError.{CompileError}
 use Rattle.sqlite_resolve.specs.Lowering.{Checked, and_then}
 use Rattle.sqlite_resolve.specs.Compile.{first, compiled, planned, meaning, returning, command}
 use Rattle.store_tables.specs.internal.Queries.{is_select, is_read_as_select, IsSelect}
-use Rattle.store_tables.specs.Over.{HasRows}
+use Rattle.store_tables.specs.Over.{HasRowsIn}
+use Rattle.store_tables.specs.declared.names.Version.{Version}
 use Rattle.store_tables.specs.Contents.{Content}
 use Rattle.store_tables.specs.Reading.{KeepsContent, KeepsMay, OnlyReads, Reads}
 use Rattle.store_tables.proofs.UpsertLemmas.{same_value}
@@ -188,7 +189,12 @@ pub read_failed : (answered : Bool) (a b : State) → Reads answered a b → Rea
 read_failed = only_reading
 
 -- what a call that answered leaves
-pub still_rows : (old new : State) → KeepsContent old new → (content : Content) → HasRows content old
-    → HasRows content new
-still_rows old new kept content (schema, whole, club, are, exactly) =
-    (schema, whole, club, are, kept schema whole exactly)
+pub still_rows : {version : Version} (old new : State) → KeepsContent old new → (content : Content)
+    → HasRowsIn version content old → HasRowsIn version content new
+still_rows old new kept content k = record {
+  schema = k.schema;
+  whole = k.whole;
+  club = k.club;
+  are = k.are;
+  exactly = kept k.schema k.whole k.exactly;
+}

@@ -18,6 +18,12 @@ pub seven : (row : Row) (a b c d e f g : Value) → length row ≡ 7 → column 
     → row ≡ a ∷ b ∷ c ∷ d ∷ e ∷ f ∷ g ∷ []
 seven row a b c d e f g h p0 p1 p2 p3 p4 p5 p6 = let is = listed row 7 h in rw (p0, p1, p2, p3, p4, p5, p6) at is
 
+pub nine : (row : Row) (a b c d e f g h i : Value) → length row ≡ 9 → column row 0 ≡ a → column row 1 ≡ b
+    → column row 2 ≡ c → column row 3 ≡ d → column row 4 ≡ e → column row 5 ≡ f → column row 6 ≡ g → column row 7 ≡ h
+    → column row 8 ≡ i → row ≡ a ∷ b ∷ c ∷ d ∷ e ∷ f ∷ g ∷ h ∷ i ∷ []
+nine row a b c d e f g h i long p0 p1 p2 p3 p4 p5 p6 p7 p8 =
+    let is = listed row 9 long in rw (p0, p1, p2, p3, p4, p5, p6, p7, p8) at is
+
 pub seventeen : (row : Row) (v0 v1 v2 v3 v4 v5 v6 v7 v8 v9 v10 v11 v12 v13 v14 v15 v16 : Value) → length row ≡ 17
     → column row 0 ≡ v0 → column row 1 ≡ v1 → column row 2 ≡ v2 → column row 3 ≡ v3 → column row 4 ≡ v4
     → column row 5 ≡ v5 → column row 6 ≡ v6 → column row 7 ≡ v7 → column row 8 ≡ v8 → column row 9 ≡ v9

@@ -8,7 +8,8 @@ use Rattle.store_tables.specs.Content.{Keeps}
 use Rattle.store_tables.specs.Contents as of_schema
 use Rattle.store_tables.specs.Contents.{Content, Stores, AreStored}
 use Rattle.store_tables.specs.Club.{Leaves, IsExactly}
-use Rattle.store_tables.specs.Tables.{club_schema}
+use Rattle.store_tables.specs.Tables.{schema_of}
+use Rattle.store_tables.specs.declared.names.Version.{Version}
 
 keeps_same : (table : Table) (db : Trees) (one other : List Row) → HaveSame one other → Keeps table db one
     → Keeps table db other
@@ -44,9 +45,10 @@ module _ (schema : Schema) (one other : Content) where
     may_leave = λ db h. leaves_on db same (k.may_leave db h);
   }
 
-pub leaves_same : (one other : Content) (db : Trees) → AreSame club_schema one other → Leaves one db → Leaves other db
-leaves_same = leaves_on club_schema
+pub leaves_same : (version : Version) (one other : Content) (db : Trees) → AreSame (schema_of version) one other
+    → Leaves version one db → Leaves version other db
+leaves_same version = leaves_on (schema_of version)
 
-pub exactly_same : (one other : Content) (s : State) → AreSame club_schema one other → IsExactly one s
-    → IsExactly other s
-exactly_same = exactly_on club_schema
+pub exactly_same : (version : Version) (one other : Content) (s : State) → AreSame (schema_of version) one other
+    → IsExactly version one s → IsExactly version other s
+exactly_same version = exactly_on (schema_of version)

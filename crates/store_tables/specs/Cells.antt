@@ -13,6 +13,9 @@ pub use Rattle.store_tables.specs.declared.rows.MoveRow.{MoveRow}
 pub use Rattle.store_tables.specs.declared.rows.GameTableRow.{GameTableRow}
 pub use Rattle.store_tables.specs.declared.rows.SeenRow.{SeenRow}
 pub use Rattle.store_tables.specs.declared.rows.ScoreRow.{ScoreRow}
+pub use Rattle.store_tables.specs.declared.rows.KeyRow.{KeyRow}
+pub use Rattle.store_tables.specs.declared.rows.RulingRow.{RulingRow}
+pub use Rattle.store_tables.specs.declared.rows.ClosingRow.{ClosingRow}
 
 -- the column values of a row of `events`
 abbrev pub event_cells : EventRow → Row
@@ -128,3 +131,29 @@ pub record IsScore (row : Row) : Type 0 where
   pub wins : IsInt (column row 4)
   pub draws : IsInt (column row 5)
   pub losses : IsInt (column row 6)
+
+-- the row has the columns of `keys`, each with a value of its type
+pub record IsKey (row : Row) : Type 0 where
+  pub width : length row ≡ 3
+  pub member : IsInt (column row 0)
+  pub number : IsInt (column row 1)
+  pub key : IsText (column row 2)
+
+-- the row has the columns of `rulings`, each with a value of its type
+pub record IsRuling (row : Row) : Type 0 where
+  pub width : length row ≡ 9
+  pub game : IsInt (column row 0)
+  pub number : IsInt (column row 1)
+  pub moment : IsInt (column row 2)
+  pub ply : IsInt (column row 3)
+  pub kind : IsInt (column row 4)
+  pub seconds : IsInt (column row 5)
+  pub result : OrNull IsText (column row 6)
+  pub beneath : OrNull IsText (column row 7)
+  pub beneath_result : OrNull IsText (column row 8)
+
+-- the row has the columns of `closings`, each with a value of its type
+pub record IsClosing (row : Row) : Type 0 where
+  pub width : length row ≡ 2
+  pub event : IsInt (column row 0)
+  pub moment : IsInt (column row 1)

@@ -5,20 +5,22 @@ use Rattle.sqlite.specs.Schema.{Schema}
 use Rattle.sqlite.specs.State.{State}
 use Rattle.sqlite.specs.Tree.{Trees}
 use Rattle.store_tables.specs.Contents.{Content, IsExactly, Leaves, nothing}
-use Rattle.store_tables.specs.Names.{in_order, tree_of}
+use Rattle.store_tables.specs.Names.{tree_of}
 use Rattle.store_tables.specs.Placed.{HasTables, TakesClub, by_club, tables_of, tree_in}
 use Rattle.store_tables.specs.Tables.{schema_of}
 use Rattle.store_tables.specs.declared.names.Table as of_club
 use Rattle.store_tables.specs.declared.names.Version.{Version}
-use Rattle.store_tables.specs.declared.names.Version.TheVariants.{Current}
+use Rattle.store_tables.specs.declared.names.Version.TheVariants.{V2}
 
--- The club's tables have exactly these rows, wherever they are in the schema and whatever foreign tables there are;
--- also after a crash.
-abbrev pub HasRows : Content → State → Type 0
-HasRows content s =
-    (schema : Schema) × (whole : Content) × HasTables Current schema
-    × AllByRecursion (λ table. by_club schema whole (tree_of table) ≡ content (tree_of table)) in_order
-    × IsExactly schema whole s
+-- The tables of a club of this version have exactly these rows, wherever they are in the schema and whatever foreign
+-- tables there are; also after a crash.
+pub record HasRowsIn (version : Version) (content : Content) (s : State) : Type 0 where
+  pub schema : Schema
+  -- the rows of all tables of the schema
+  pub whole : Content
+  pub club : HasTables version schema
+  pub are : AllByRecursion (λ table. by_club schema whole (tree_of table) ≡ content (tree_of table)) (tables_of version)
+  pub exactly : IsExactly schema whole s
 
 -- ---- foreign tables
 

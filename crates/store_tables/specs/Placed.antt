@@ -1,6 +1,6 @@
 -- A club's tables in any schema: in any order, with any trees, among foreign tables.
 use Rattle.std.specs.Prelude.{◌≡◌, ℕ, ◌==◌, ◌&&◌, ◌^◌, nat_lt, true, false, if◌then◌else◌, List, [], ◌∷◌}
-use Rattle.std.specs.Prelude.{Option, Some, None, Ok, IfSome, drop, find, slice_get, take}
+use Rattle.std.specs.Prelude.{Option, Some, None, Ok, IfSome, find, slice_get, take}
 use Rattle.std.specs.List.{AllByRecursion}
 use Rattle.sqlite.specs.Order.{Row}
 use Rattle.sqlite.specs.Schema.{Schema}
@@ -21,7 +21,9 @@ use Rattle.store_tables.specs.Contents.{Content}
 use Rattle.store_tables.specs.Names.{in_order, table_count, table_name, tree_of}
 use Rattle.store_tables.specs.Tables.{made_as}
 use Rattle.store_tables.specs.declared.names.Table as of_club
+use Rattle.store_tables.specs.declared.names.Table.TheVariants.{EventRules}
 use Rattle.store_tables.specs.declared.names.Version.{Version}
+use Rattle.store_tables.specs.declared.names.Version.TheVariants.{V1, V2, V3}
 
 -- The schema has this table of a club, with a tree of its own.
 pub record HasTableAt (schema : Schema) (table : of_club.Table) : Type 0 where
@@ -45,15 +47,17 @@ tables_of version = take (table_count version) in_order
 abbrev pub HasTables : Version → Schema → Type 0
 HasTables version schema = AllByRecursion (HasTableAt schema) (tables_of version)
 
--- the tables that only later versions have
-abbrev pub later_tables : Version → List of_club.Table
-later_tables version = drop (table_count version) in_order
+-- the tables whose names tell that a club is of a later version
+abbrev pub excluded_tables : Version → List of_club.Table
+excluded_tables V1 = EventRules ∷ []
+excluded_tables V2 = []
+excluded_tables V3 = []
 
--- The schema has the tables of exactly this version: no table, view or index uses the name of a table of a later
--- version.
+-- The schema has the tables of this version, and no table, view or index uses the name of a table that it excludes. A
+-- foreign table may have the name of a table that only schema 3 has: the number in `meta` tells schema 2 from schema 3.
 abbrev pub HasTablesOf : Version → Schema → Type 0
 HasTablesOf version schema = HasTables version schema
-    × AllByRecursion (λ table. is_used schema (table_name table) ≡ false) (later_tables version)
+    × AllByRecursion (λ table. is_used schema (table_name table) ≡ false) (excluded_tables version)
 
 -- those of one of the versions
 abbrev pub HasClubTables : Schema → Type 0

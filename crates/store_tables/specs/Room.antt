@@ -11,19 +11,20 @@ use Rattle.sqlite_schema.specs.Names.{same_name}
 use Rattle.sqlite_schema.specs.declared.schema.Reference.{Reference}
 use Rattle.sqlite_trees.specs.Tree.{IsAscending}
 use Rattle.store_tables.specs.Contents.{IsExactly, Leaves}
-use Rattle.store_tables.specs.Names.{in_order, table_name}
+use Rattle.store_tables.specs.Names.{table_name}
 use Rattle.store_tables.specs.Over.{Neighbours}
-use Rattle.store_tables.specs.Tables.{made_as}
+use Rattle.store_tables.specs.Placed.{tables_of}
+use Rattle.store_tables.specs.Tables.{IsServed, made_as}
 use Rattle.store_tables.specs.declared.names.Table as of_club
-use Rattle.store_tables.specs.declared.names.Version.TheVariants.{Current}
+use Rattle.store_tables.specs.declared.names.Version.{Version}
 
--- no table of a club has this name
-abbrev pub IsNoName : List ℕ → Type 0
-IsNoName name = AllByRecursion (λ table. same_name (table_name table) name ≡ false) in_order
+-- no table of a club of this version has this name
+abbrev pub IsNoName : Version → List ℕ → Type 0
+IsNoName version name = AllByRecursion (λ table. same_name (table_name table) name ≡ false) (tables_of version)
 
--- no FOREIGN KEY of the table refers to a table of a club
-abbrev pub IsUnrelated : Table → Type 0
-IsUnrelated table = AllByRecursion (λ (ref : Reference). IsNoName ref.parent) table.references
+-- no FOREIGN KEY of the table refers to a table of a club of this version
+abbrev pub IsUnrelated : Version → Table → Type 0
+IsUnrelated version table = AllByRecursion (λ (ref : Reference). IsNoName version ref.parent) table.references
 
 -- the schema after these tables of a club are created
 abbrev pub made_in : Schema → List of_club.Table → Schema
@@ -38,14 +39,14 @@ AreUnused schema (table ∷ tables) =
     (is_used schema (table_name table) ≡ false) × (nat_lt (next_tree schema) (2 ^ 31) ≡ true)
     × (lacks_sequence (created schema (made_as table 0)) ≡ false) × AreUnused (created schema (made_as table 0)) tables
 
--- A club of the current version can be created in the schema; `them` is the result.
+-- A club of this version, schema 2 or schema 3, can be created in the schema; `them` is the result.
 pub record HasRoom (schema : Schema) (them : Neighbours) : Type 0 where
-  pub version : them.version ≡ Current
+  pub served : IsServed them.version
   -- no two tables have the same tree
   pub trees : IsAscending (λ (a b : Table). a.tree ≡ b.tree → ⊥) schema.tables
-  pub unrelated : AllByRecursion IsUnrelated schema.tables
-  pub unused : AreUnused schema in_order
-  pub is : them.schema ≡ made_in schema in_order
+  pub unrelated : AllByRecursion (IsUnrelated them.version) schema.tables
+  pub unused : AreUnused schema (tables_of them.version)
+  pub is : them.schema ≡ made_in schema (tables_of them.version)
   -- unused trees have no rows
   pub bare : (tree : ℕ) → next_tree schema ≤ tree → them.rows tree ≡ []
 

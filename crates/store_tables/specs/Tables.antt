@@ -1,6 +1,7 @@
 -- The tables of a club, as SQLite parses their CREATE statements. Each UNIQUE key and each key of several columns has
--- an index tree after the tree of its table. Schema 1 has the first eight tables, schema 2 all nine.
-use Rattle.std.specs.Prelude.{ℕ, ◌+◌, Bool, true, false, List, [], ◌∷◌, ◌++◌, map, codes, Option, Some, None}
+-- an index tree after the tree of its table. Schema 1 has the first eight tables, schema 2 the first nine, schema 3
+-- all.
+use Rattle.std.specs.Prelude.{◌≡◌, ℕ, ◌+◌, Bool, true, false, List, [], ◌∷◌, ◌++◌, map, codes, Option, Some, None}
 use Rattle.std.specs.Prelude.{take}
 use Rattle.sqlite.specs.Collation.TheVariants.{Binary}
 use Rattle.sqlite.specs.declared.types.Value.TheVariants.{Null}
@@ -16,7 +17,7 @@ use Rattle.store_tables.specs.Names.{in_order, table_count, tree_of}
 use Rattle.store_tables.specs.declared.names.Table as of_club
 use Rattle.store_tables.specs.declared.names.Table.TheVariants as variant
 use Rattle.store_tables.specs.declared.names.Version.{Version}
-use Rattle.store_tables.specs.declared.names.Version.TheVariants.{First, Current}
+use Rattle.store_tables.specs.declared.names.Version.TheVariants.{V1, V2, V3}
 
 -- a column of a STRICT table with collation BINARY and no DEFAULT; NOT NULL if it is required
 abbrev pub column_of : List ℕ → Kind → Bool → Column
@@ -111,6 +112,28 @@ abbrev pub event_rules : ℕ → Table
 event_rules tree = table_of (codes "event_rules") tree
     (column_of (codes "event") Integer false ∷ column_of (codes "declares") Integer true ∷ []) (Some 0) (0 ∷ []) []
 
+-- the table of later keys, in this tree; its key is the member and the number, and members' keys are unique
+abbrev pub keys : ℕ → Table
+keys tree = table_of (codes "keys") tree
+    (column_of (codes "member") Integer true ∷ column_of (codes "number") Integer true
+    ∷ column_of (codes "key") Text true ∷ [])
+    None (1 ∷ 2 ∷ []) ((3 ∷ []) ∷ (1 ∷ 2 ∷ []) ∷ [])
+
+-- the table of rulings, in this tree; its key is the game and the ruling's number
+abbrev pub rulings : ℕ → Table
+rulings tree = table_of (codes "rulings") tree
+    (column_of (codes "game") Integer true ∷ column_of (codes "number") Integer true
+    ∷ column_of (codes "moment") Integer true ∷ column_of (codes "ply") Integer true
+    ∷ column_of (codes "kind") Integer true ∷ column_of (codes "seconds") Integer true
+    ∷ column_of (codes "result") Text false ∷ column_of (codes "beneath") Text false
+    ∷ column_of (codes "beneath_result") Text false ∷ [])
+    None (1 ∷ 2 ∷ []) ((1 ∷ 2 ∷ []) ∷ [])
+
+-- the table of closed events, in this tree
+abbrev pub closings : ℕ → Table
+closings tree = table_of (codes "closings") tree
+    (column_of (codes "event") Integer false ∷ column_of (codes "moment") Integer true ∷ []) (Some 0) (0 ∷ []) []
+
 -- a table of the club with this tree
 abbrev pub made_as : of_club.Table → ℕ → Table
 made_as variant.Meta = meta
@@ -122,12 +145,15 @@ made_as variant.Games = games
 made_as variant.Seen = seen
 made_as variant.Scores = scores
 made_as variant.EventRules = event_rules
+made_as variant.Keys = keys
+made_as variant.Rulings = rulings
+made_as variant.Closings = closings
 
 -- with its tree in a database with only a club
 abbrev pub standing : of_club.Table → Table
 standing table = made_as table (tree_of table)
 
--- all tables of schema 2 in a database with only a club
+-- all tables of schema 3 in a database with only a club
 abbrev pub tables : List Table
 tables = map standing in_order
 
@@ -140,10 +166,6 @@ abbrev pub flat_indexes : List Table → List Index
 flat_indexes [] = []
 flat_indexes (t ∷ ts) = indexes_of t ++ flat_indexes ts
 
--- schema 2
-abbrev pub club_schema : Schema
-club_schema = record { tables = tables; indexes = flat_indexes tables; views = [] }
-
 -- the schema with the first n tables
 abbrev pub schema_after : ℕ → Schema
 schema_after n = record { tables = take n tables; indexes = flat_indexes (take n tables); views = [] }
@@ -154,5 +176,15 @@ schema_of version = schema_after (table_count version)
 
 -- the schema number in `meta`
 abbrev pub schema_number : Version → ℕ
-schema_number First = 1
-schema_number Current = 2
+schema_number V1 = 1
+schema_number V2 = 2
+schema_number V3 = 3
+
+-- the program serves clubs of this version: schema 2 or schema 3
+abbrev pub is_served : Version → Bool
+is_served V1 = false
+is_served V2 = true
+is_served V3 = true
+
+abbrev pub IsServed : Version → Type 0
+IsServed version = is_served version ≡ true

@@ -5,7 +5,7 @@
 //!
 //! # Guarantees
 //!
-//! - `TableRow`, `parse_all` (`shows`, `mistyped`): a row of each of the nine tables is written and read back as
+//! - `TableRow`, `parse_all` (`shows`, `mistyped`): a row of each of the twelve tables is written and read back as
 //!   itself. Rows of other types are refused.
 //! - `Table::put`, `all`, `ids`, `by_first`, `create`: the SQL texts are those that the table's description gives.
 //!   `specs/Queries` says what each text means, by computation.
@@ -22,6 +22,6 @@ pub use ids::check_ids;
 pub use names::{Table, Version};
 pub use parse::{RowError, TableRow, parse_all};
 pub use rows::{
-    ChallengeRow, Changes, EventRow, EventRuleRow, GameTableRow, MemberRow, MetaRow, MoveRow, Rows,
-    ScoreRow, SeenRow,
+    ChallengeRow, Changes, ClosingRow, EventRow, EventRuleRow, GameTableRow, KeyRow, MemberRow,
+    MetaRow, MoveRow, Rows, RulingRow, ScoreRow, SeenRow,
 };

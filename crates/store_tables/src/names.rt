@@ -2,13 +2,15 @@
 
 use std::fmt;
 
-/// The version of a club's schema. Schema 1 has no table of event rules.
+/// The version of a club's schema. Each version has the tables of those before it.
 #[derive(Debug, Clone, Copy, PartialEq, Eq)]
 pub enum Version {
-    /// Schema 1: all tables but `event_rules`.
-    First,
-    /// Schema 2: all tables.
-    Current,
+    /// Schema 1: members, events, challenges, games and scores.
+    V1,
+    /// Schema 2: also the rules of events.
+    V2,
+    /// Schema 3: also the arbiter's tables: later keys, rulings and closed events.
+    V3,
 }
 
 impl Version {
@@ -22,8 +24,9 @@ impl Version {
         ensures { result ≡ pos (schema_number self) }
     {
         match self {
-            Version::First => 1,
-            Version::Current => 2,
+            Version::V1 => 1,
+            Version::V2 => 2,
+            Version::V3 => 3,
         }
     }
 
@@ -33,8 +36,9 @@ impl Version {
         ensures none { result ≡ None → (version : Version) → number ≢ pos (schema_number version) }
     {
         match number {
-            1 => Some(Version::First),
-            2 => Some(Version::Current),
+            1 => Some(Version::V1),
+            2 => Some(Version::V2),
+            3 => Some(Version::V3),
             _ => None,
         }
     }
@@ -44,8 +48,9 @@ impl Version {
         ensures { result ≡ table_count self }
     {
         match self {
-            Version::First => 8,
-            Version::Current => 9,
+            Version::V1 => 8,
+            Version::V2 => 9,
+            Version::V3 => 12,
         }
     }
 }
@@ -62,14 +67,17 @@ pub enum Table {
     Seen,
     Scores,
     Meta,
+    Keys,
+    Rulings,
+    Closings,
 }
 
 impl Table {
     ghost use Rattle.std.specs.Prelude.{◌≡◌};
     ghost use Rattle.store_tables.specs.Names.{table_name};
 
-    /// All tables in the order in which they are created. Schema 1 has all but the last.
-    pub const ALL: [Table; 9] = [
+    /// All tables in the order in which they are created. Each schema has the first `Version::table_count` of them.
+    pub const ALL: [Table; 12] = [
         Table::Meta,
         Table::Members,
         Table::Events,
@@ -79,6 +87,9 @@ impl Table {
         Table::Seen,
         Table::Scores,
         Table::EventRules,
+        Table::Keys,
+        Table::Rulings,
+        Table::Closings,
     ];
 
     /// The name of the table in SQL.
@@ -95,6 +106,9 @@ impl Table {
             Table::Seen => "seen",
             Table::Scores => "scores",
             Table::Meta => "meta",
+            Table::Keys => "keys",
+            Table::Rulings => "rulings",
+            Table::Closings => "closings",
         }
     }
 }

@@ -9,13 +9,15 @@ ghost use Rattle.store_tables.specs.Cells.{event_cells, move_cells};
 ghost use Rattle.store_tables.specs.internal.Cells.{meta_cells, member_cells, challenge_cells};
 ghost use Rattle.store_tables.specs.Cells.{game_cells, seen_cells};
 ghost use Rattle.store_tables.specs.internal.Cells.{event_rule_cells, score_cells};
+ghost use Rattle.store_tables.specs.internal.Cells.{closing_cells, key_cells, ruling_cells};
+ghost use Rattle.store_tables.specs.Cells.{IsClosing, IsKey, IsRuling};
 ghost use Rattle.store_tables.specs.Cells.{IsText, OrNull, IsMember, IsEvent, IsChallenge, IsMove, IsGame};
 ghost use Rattle.store_tables.specs.internal.Cells.{IsMeta};
 ghost use Rattle.store_tables.specs.Cells.{IsEventRule, IsSeen, IsScore};
 
 use crate::rows::{
-    ChallengeRow, EventRow, EventRuleRow, GameTableRow, MemberRow, MetaRow, MoveRow, ScoreRow,
-    SeenRow,
+    ChallengeRow, ClosingRow, EventRow, EventRuleRow, GameTableRow, KeyRow, MemberRow, MetaRow,
+    MoveRow, RulingRow, ScoreRow, SeenRow,
 };
 use sqlite::types::FromSql;
 use sqlite::{Error, ErrorCode, Row};
@@ -281,6 +283,63 @@ impl TableRow for ScoreRow {
             wins: read(row, 4)?,
             draws: read(row, 5)?,
             losses: read(row, 6)?,
+        })
+    }
+}
+
+impl TableRow for KeyRow {
+    ghost cells = { key_cells };
+
+    ghost IsTyped = { IsKey };
+
+    fn parse(row: &Row) -> Result<KeyRow, RowError> {
+        if row.column_count() != 3 {
+            return Err(RowError::WrongType);
+        }
+        let key = read(row, 2)?;
+        Ok(KeyRow {
+            member: read(row, 0)?,
+            number: read(row, 1)?,
+            key,
+        })
+    }
+}
+
+impl TableRow for RulingRow {
+    ghost cells = { ruling_cells };
+
+    ghost IsTyped = { IsRuling };
+
+    fn parse(row: &Row) -> Result<RulingRow, RowError> {
+        if row.column_count() != 9 {
+            return Err(RowError::WrongType);
+        }
+        Ok(RulingRow {
+            game: read(row, 0)?,
+            number: read(row, 1)?,
+            moment: read(row, 2)?,
+            ply: read(row, 3)?,
+            kind: read(row, 4)?,
+            seconds: read(row, 5)?,
+            result: read_text(row, 6)?,
+            beneath: read_text(row, 7)?,
+            beneath_result: read_text(row, 8)?,
+        })
+    }
+}
+
+impl TableRow for ClosingRow {
+    ghost cells = { closing_cells };
+
+    ghost IsTyped = { IsClosing };
+
+    fn parse(row: &Row) -> Result<ClosingRow, RowError> {
+        if row.column_count() != 2 {
+            return Err(RowError::WrongType);
+        }
+        Ok(ClosingRow {
+            event: read(row, 0)?,
+            moment: read(row, 1)?,
         })
     }
 }

@@ -6,7 +6,7 @@
 pub struct MetaRow {
     /// Always 1.
     pub id: i64,
-    /// The version of the schema: 1 or 2.
+    /// The version of the schema: 1, 2 or 3.
     pub schema: i64,
     /// The timestamp of the last accepted command.
     pub last: i64,
@@ -135,13 +135,54 @@ pub struct ScoreRow {
     pub losses: i64,
 }
 
-/// All rows of a club except moves, positions and scores. The rows of each table are in the order of its key.
+/// A row of `keys`: a later key of a member, beside the first one in `members`.
+#[derive(Debug, PartialEq, Drop)]
+pub struct KeyRow {
+    pub member: i64,
+    /// The number of the key among the member's later keys, from 1. The greatest is the present one.
+    pub number: i64,
+    /// The member's secret key.
+    pub key: String,
+}
+
+/// A row of `rulings`: an arbiter's ruling in a game.
+#[derive(Debug, PartialEq, Drop)]
+pub struct RulingRow {
+    pub game: i64,
+    /// The number of the ruling in its game, from 1.
+    pub number: i64,
+    pub moment: i64,
+    /// The number of plies that were played when the ruling was given.
+    pub ply: i64,
+    /// 0 grant to First, 1 grant to Second, 2 award, 3 void.
+    pub kind: i64,
+    /// The granted time, in seconds; 0 if the ruling is no grant.
+    pub seconds: i64,
+    /// First's and Second's awarded points, as in `2-0`; NULL if the ruling is no award.
+    pub result: Option<String>,
+    /// The name of the end before the first award or void of an ended game; NULL in all other rows.
+    pub beneath: Option<String>,
+    /// First's and Second's points at that end, as in `2-0`.
+    pub beneath_result: Option<String>,
+}
+
+/// A row of `closings`: an event that is closed to challenges.
+#[derive(Debug, PartialEq, Drop)]
+pub struct ClosingRow {
+    pub event: i64,
+    pub moment: i64,
+}
+
+/// All rows of a club except rulings, moves, positions and scores. The rows of each table are in the order of its key.
 #[derive(Debug, PartialEq, Drop)]
 pub struct Rows {
     pub meta: MetaRow,
     pub members: Vec<MemberRow>,
+    /// Empty unless the club has schema 3, as `closings` is.
+    pub keys: Vec<KeyRow>,
     pub events: Vec<EventRow>,
     pub event_rules: Vec<EventRuleRow>,
+    pub closings: Vec<ClosingRow>,
     pub challenges: Vec<ChallengeRow>,
     pub games: Vec<GameTableRow>,
 }
@@ -157,5 +198,10 @@ pub struct Changes {
     pub moves: Vec<MoveRow>,
     pub seen: Vec<SeenRow>,
     pub scores: Vec<ScoreRow>,
-    pub meta: Option<MetaRow>,
+    /// Empty unless the club has schema 3, as `rulings` and `closings` are.
+    pub keys: Vec<KeyRow>,
+    pub rulings: Vec<RulingRow>,
+    pub closings: Vec<ClosingRow>,
+    /// The timestamp of the accepted command, in seconds; `None` if the row of `meta` stays.
+    pub last: Option<i64>,
 }

@@ -30,6 +30,15 @@ const CREATE_SCORES: &str =
 const CREATE_EVENT_RULES: &str =
     "CREATE TABLE event_rules (event INTEGER PRIMARY KEY, declares INTEGER NOT NULL) STRICT";
 
+const CREATE_KEYS: &str =
+    "CREATE TABLE keys (member INTEGER NOT NULL, number INTEGER NOT NULL, key TEXT NOT NULL UNIQUE, PRIMARY KEY (member, number)) STRICT";
+
+const CREATE_RULINGS: &str =
+    "CREATE TABLE rulings (game INTEGER NOT NULL, number INTEGER NOT NULL, moment INTEGER NOT NULL, ply INTEGER NOT NULL, kind INTEGER NOT NULL, seconds INTEGER NOT NULL, result TEXT, beneath TEXT, beneath_result TEXT, PRIMARY KEY (game, number)) STRICT";
+
+const CREATE_CLOSINGS: &str =
+    "CREATE TABLE closings (event INTEGER PRIMARY KEY, moment INTEGER NOT NULL) STRICT";
+
 impl Table {
     ghost use Rattle.std.specs.Prelude.{◌≡◌};
     ghost use Rattle.store_tables.specs.Tables.{standing};
@@ -50,6 +59,9 @@ impl Table {
             Table::Seen => CREATE_SEEN,
             Table::Scores => CREATE_SCORES,
             Table::EventRules => CREATE_EVENT_RULES,
+            Table::Keys => CREATE_KEYS,
+            Table::Rulings => CREATE_RULINGS,
+            Table::Closings => CREATE_CLOSINGS,
         }
     }
 
@@ -85,6 +97,15 @@ impl Table {
             Table::EventRules => {
                 "INSERT INTO event_rules (event, declares) VALUES (?1, ?2) ON CONFLICT (event) DO UPDATE SET event = excluded.event, declares = excluded.declares"
             }
+            Table::Keys => {
+                "INSERT INTO keys (member, number, key) VALUES (?1, ?2, ?3) ON CONFLICT (member, number) DO UPDATE SET member = excluded.member, number = excluded.number, key = excluded.key"
+            }
+            Table::Rulings => {
+                "INSERT INTO rulings (game, number, moment, ply, kind, seconds, result, beneath, beneath_result) VALUES (?1, ?2, ?3, ?4, ?5, ?6, ?7, ?8, ?9) ON CONFLICT (game, number) DO UPDATE SET game = excluded.game, number = excluded.number, moment = excluded.moment, ply = excluded.ply, kind = excluded.kind, seconds = excluded.seconds, result = excluded.result, beneath = excluded.beneath, beneath_result = excluded.beneath_result"
+            }
+            Table::Closings => {
+                "INSERT INTO closings (event, moment) VALUES (?1, ?2) ON CONFLICT (event) DO UPDATE SET event = excluded.event, moment = excluded.moment"
+            }
         }
     }
 
@@ -112,6 +133,11 @@ impl Table {
                 "SELECT event, member, opponent, points, wins, draws, losses FROM scores ORDER BY event, member, opponent"
             }
             Table::EventRules => "SELECT event, declares FROM event_rules ORDER BY event",
+            Table::Keys => "SELECT member, number, key FROM keys ORDER BY member, number",
+            Table::Rulings => {
+                "SELECT game, number, moment, ply, kind, seconds, result, beneath, beneath_result FROM rulings ORDER BY game, number"
+            }
+            Table::Closings => "SELECT event, moment FROM closings ORDER BY event",
         }
     }
 
@@ -140,6 +166,11 @@ impl Table {
                 "SELECT event, member, opponent, points, wins, draws, losses FROM scores ORDER BY event DESC"
             }
             Table::EventRules => "SELECT event, declares FROM event_rules ORDER BY event DESC",
+            Table::Keys => "SELECT member, number, key FROM keys ORDER BY member DESC",
+            Table::Rulings => {
+                "SELECT game, number, moment, ply, kind, seconds, result, beneath, beneath_result FROM rulings ORDER BY game DESC"
+            }
+            Table::Closings => "SELECT event, moment FROM closings ORDER BY event DESC",
         }
     }
 
@@ -157,6 +188,9 @@ impl Table {
             Table::Seen => "SELECT rowid FROM seen ORDER BY rowid",
             Table::Scores => "SELECT rowid FROM scores ORDER BY rowid",
             Table::EventRules => "SELECT event FROM event_rules ORDER BY event",
+            Table::Keys => "SELECT rowid FROM keys ORDER BY rowid",
+            Table::Rulings => "SELECT rowid FROM rulings ORDER BY rowid",
+            Table::Closings => "SELECT event FROM closings ORDER BY event",
         }
     }
 
@@ -186,6 +220,13 @@ impl Table {
                 "SELECT event, member, opponent, points, wins, draws, losses FROM scores WHERE event = ?1 ORDER BY member, opponent"
             }
             Table::EventRules => "SELECT event, declares FROM event_rules WHERE event = ?1",
+            Table::Keys => {
+                "SELECT member, number, key FROM keys WHERE member = ?1 ORDER BY number"
+            }
+            Table::Rulings => {
+                "SELECT game, number, moment, ply, kind, seconds, result, beneath, beneath_result FROM rulings WHERE game = ?1 ORDER BY number"
+            }
+            Table::Closings => "SELECT event, moment FROM closings WHERE event = ?1",
         }
     }
 }

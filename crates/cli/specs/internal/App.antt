@@ -1,7 +1,8 @@
 -- The grammar of the command line, as the parser's data. No promise of the program rests on these definitions.
 use Rattle.std.specs.Prelude.{true, codes}
 use Rattle.clap.specs.Words.{App, new_app}
-use Rattle.cli.specs.App.{Names, member_app, event_app, game_app, import_app, import_csa_app, move_app, with_sub}
+use Rattle.cli.specs.App.{Names, member_app, event_app, game_app, import_app, import_csa_app, key_app, move_app}
+use Rattle.cli.specs.App.{of_event_app, with_sub}
 
 -- ---- line of a batch
 
@@ -17,10 +18,14 @@ line_app games =
     (with_sub
     (with_sub
     (with_sub
+    (with_sub
+    (with_sub
     (with_sub named_line_app member_app)
     (event_app games))
     (game_app (codes "seat")))
     move_app)
     (new_app (codes "sweep")))
     (import_app (codes "import-pdn")))
-    import_csa_app
+    import_csa_app)
+    key_app)
+    (of_event_app (codes "close"))

@@ -1,7 +1,7 @@
 -- The checks of single tables: the members, events, challenges and games of a legal club. No promise of the program
 -- rests on these definitions.
 use Rattle.std.specs.Prelude.{◌≡◌, ◌≢◌, ◌+◌, ◌<◌, ◌≤◌, ℕ, pos, List, map, length, Option, Some, Bool, slice_get}
-use Rattle.std.specs.Prelude.{string_bytes}
+use Rattle.std.specs.Prelude.{string_bytes, IfSome}
 use Rattle.std.specs.Option.{option_map}
 use Rattle.club_rules.specs.GameRules.{GameRules}
 use Rattle.club_core.specs.declared.rows.GameEnd.TheVariants.{Outside}
@@ -27,9 +27,12 @@ use Rattle.store_tables.specs.declared.rows.Rows.{Rows}
 use Rattle.store_tables.specs.declared.rows.SeenRow.{SeenRow}
 use Rattle.store_tables.specs.declared.names.Table.{Table}
 use Rattle.store_tables.specs.declared.names.Table.TheVariants.{Members, Events, EventRules, Challenges, Games, Meta}
+use Rattle.store_tables.specs.declared.names.Table.TheVariants.{Keys, Closings}
 use Rattle.club_rows.specs.Club.{ClubState, ClubGame, both_games}
 use Rattle.club_rows.specs.EachOnce.{AreEachOnce}
 use Rattle.club_audit.specs.internal.ChallengeAudit.{AreChallenges}
+use Rattle.club_audit.specs.internal.ClosingAudit.{AreClosingsAfter, AreClosingsOf, IsClosedBy}
+use Rattle.club_audit.specs.internal.KeyAudit.{AreKeysOf}
 use Rattle.club_rows.specs.Tables.{member_row, event_row, rule_row, declares_number, numbered_from, row_of_game}
 use Rattle.club_rows.specs.Tables.{rows_of_moves, rows_of_seen}
 
@@ -156,22 +159,28 @@ pub record AreApartGames (games : List GameTableRow) : Type 0 where
   pub few : length games ≤ most_games
   pub keys : HaveUniqueKeysIfAny (λ r. option_map (λ s. string_bytes s) r.key) games
 
--- The rows of `meta`, members, events and challenges are those of a legal club; the number of games is within the
--- limit, and no two have the same key.
+-- The rows of `meta`, members, keys, events, closings and challenges are those of a legal club; the number of games is
+-- within the limit, and no two have the same key.
 pub record HaveRegister (rows : Rows) : Type 0 where
   pub state : ClubState
   pub moment : rows.meta.last ≡ pos state.last
   pub within : state.last ≤ last_moment
   pub people : HasPeople state rows
+  pub keys : AreKeysOf state.members rows.keys.items
+  pub closings : AreClosingsOf state.events rows.closings.items
+  pub closed_by : Each (λ e. IfSome e.closed (λ moment. moment ≤ state.last)) state.events
   pub challenges : AreChallenges state.challenges rows
   pub games : AreApartGames rows.games.items
 
 -- the condition on each table
 abbrev pub IsRightInRegister : Rows → Table → Type 0
 IsRightInRegister rows Members = (ms : List Member) × AreMembers ms rows.members.items
+IsRightInRegister rows Keys = (ms : List Member) × AreMembers ms rows.members.items × AreKeysOf ms rows.keys.items
 IsRightInRegister rows Events = (es : List Event) × AreEvents es rows.events.items
 IsRightInRegister rows EventRules = AreRules rows.event_rules.items (length rows.events.items)
+IsRightInRegister rows Closings = AreClosingsAfter (length rows.events.items) 0 rows.closings.items
 IsRightInRegister rows Challenges = (cs : List Challenge) × AreChallenges cs rows
 IsRightInRegister rows Games = AreApartGames rows.games.items
-IsRightInRegister rows Meta = (n : ℕ) × (rows.meta.last ≡ pos n) × (n ≤ last_moment)
+IsRightInRegister rows Meta =
+    (n : ℕ) × (rows.meta.last ≡ pos n) × (n ≤ last_moment) × Each (IsClosedBy n) rows.closings.items
 IsRightInRegister rows t = Unit {0}

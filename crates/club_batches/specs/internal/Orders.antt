@@ -65,7 +65,7 @@ abbrev pub is_input : Option (String Global) → Bool
 is_input None = false
 is_input (Some path) = bytes_eq (string_bytes path) (codes "-")
 
--- the order reads its record from standard input
+-- the order reads its record or its key from standard input
 abbrev pub reads_input : BatchOrder → Bool
 reads_input order = is_input order.«record»
 
@@ -127,12 +127,12 @@ pub record IsRefused (line : Line) (why : List ℕ) : Type 0 where
   pub refused : AreRefusedInLine (arguments_in line.text) said
   pub message : IsParserMessage said why
 
--- the order of the line reads its record from standard input
+-- the order of the line reads standard input
 pub record IsFromInput (line : Line) (why : List ℕ) : Type 0 where
   pub order : BatchOrder
   pub states : AreSaidInLine (arguments_in line.text) order
   pub is_input : reads_input order ≡ true
-  pub message : why ≡ codes "the record of a line is a file\n"
+  pub message : why ≡ codes "a line of a batch reads no standard input\n"
 
 -- the line states no order
 abbrev pub IsNoOrder : Line → List ℕ → Type 0

@@ -1,7 +1,7 @@
 -- The club as a state machine, and the effect of a command on its tables. No promise of the program rests on these
 -- definitions.
-use Rattle.std.specs.Prelude.{◌≡◌, ◌≢◌, ◌⊎◌, ◌+◌, ◌++◌, ℕ, List, [], ◌∷◌, length, map, Option, Some, None}
-use Rattle.std.specs.Prelude.{slice_get}
+use Rattle.std.specs.Prelude.{◌≡◌, ◌≢◌, ◌⊎◌, ◌+◌, ◌++◌, ℕ, pos, List, [], ◌∷◌, length, map, Option, Some, None}
+use Rattle.std.specs.Prelude.{slice_get, true}
 use Rattle.std.specs.Option.{option_map}
 use Rattle.sqlite.specs.Order.{Row}
 use Rattle.store_tables.specs.Changes as changes
@@ -33,22 +33,24 @@ use Rattle.club_rows.specs.Scores.{Meeting, meetings_in}
 use Rattle.club_rows.specs.Seen.{seen_rows}
 use Rattle.club_rows.specs.internal.Seen.{IsSeenRow, IsFound}
 use Rattle.club_rows.specs.declared.scores.ScoreRows.{ScoreRows}
-use Rattle.club_rows.specs.Tables.{meta_row, number, game_row, move_rows, row_of_game, rows_of_seen}
+use Rattle.club_rows.specs.Tables.{number, game_row, move_rows, row_of_game, rows_of_seen, version_of}
 use Rattle.store_tables.specs.Cells.{event_cells, move_cells, game_cells}
-use Rattle.store_tables.specs.internal.Cells.{meta_cells, member_cells, challenge_cells}
+use Rattle.store_tables.specs.internal.Cells.{member_cells, challenge_cells}
 use Rattle.store_tables.specs.Cells.{seen_cells}
 use Rattle.store_tables.specs.internal.Cells.{event_rule_cells, score_cells}
+use Rattle.store_tables.specs.internal.Cells.{closing_cells, key_cells, ruling_cells}
 use Rattle.store_tables.specs.Contents.{Content}
 use Rattle.store_tables.specs.internal.Contents.{AreThose}
-use Rattle.store_tables.specs.Tables.{club_schema}
+use Rattle.store_tables.specs.internal.Tables.{club_schema}
 use Rattle.store_tables.specs.declared.rows.Changes.{Changes}
 use Rattle.store_tables.specs.declared.rows.MoveRow.{MoveRow}
 use Rattle.store_tables.specs.declared.rows.SeenRow.{SeenRow}
 use Rattle.store_tables.specs.declared.rows.ScoreRow.{ScoreRow}
 use Rattle.club_changes.specs.declared.decided.CommandEffect.{CommandEffect}
-use Rattle.store_tables.specs.internal.Changed.{changed}
+use Rattle.store_tables.specs.internal.Changed.{FitsVersion, changed}
 use Rattle.store_tables.specs.Names.{tree_of}
 use Rattle.store_tables.specs.declared.names.Table.TheVariants.{Moves, Seen}
+use Rattle.store_tables.specs.declared.names.Version.{Version}
 
 -- a step by a caller's command, with the effective timestamp
 abbrev pub caller_step : ClubState → ℕ → Caller → Command → Outcome ClubState
@@ -74,6 +76,9 @@ pub record PutRows : Type 0 where
   pub moves : List Row
   pub seen : List Row
   pub scores : List Row
+  pub keys : List Row
+  pub rulings : List Row
+  pub closings : List Row
 
 abbrev pub no_rows : PutRows
 no_rows = record {
@@ -85,11 +90,14 @@ no_rows = record {
   moves = [];
   seen = [];
   scores = [];
+  keys = [];
+  rulings = [];
+  closings = [];
 }
 
 -- Exactly these rows are upserted, with this timestamp as that of the last accepted command.
 pub record Puts (changes : Changes) (moment : ℕ) (rows : PutRows) : Type 0 where
-  pub meta : option_map meta_cells changes.meta ≡ Some (meta_row 2 moment)
+  pub last : changes.last ≡ Some (pos moment)
   pub members_are : map member_cells changes.members.items ≡ rows.members
   pub events_are : map event_cells changes.events.items ≡ rows.events
   pub rules_are : map event_rule_cells changes.event_rules.items ≡ rows.rules
@@ -98,6 +106,13 @@ pub record Puts (changes : Changes) (moment : ℕ) (rows : PutRows) : Type 0 whe
   pub moves_are : map move_cells changes.moves.items ≡ rows.moves
   pub seen_are : map seen_cells changes.seen.items ≡ rows.seen
   pub scores_are : map score_cells changes.scores.items ≡ rows.scores
+  pub keys_are : map key_cells changes.keys.items ≡ rows.keys
+  pub rulings_are : map ruling_cells changes.rulings.items ≡ rows.rulings
+  pub closings_are : map closing_cells changes.closings.items ≡ rows.closings
+
+-- the club can store the rows: only a club with an arbiter has the arbiter's tables
+abbrev pub AreTaken : ClubState → PutRows → Type 0
+AreTaken s rows = (s.has_arbiter ≡ true) ⊎ ((rows.keys ≡ []) × (rows.rulings ≡ []) × (rows.closings ≡ []))
 
 -- the row of a position, if there is one
 abbrev pub seen_list : Option SeenRow → List Row
@@ -124,9 +139,18 @@ abbrev pub PutsScoresOf : List Row → (event first second : ℕ) → Option Sco
 PutsScoresOf table event first second None rows = rows ≡ []
 PutsScoresOf table event first second (Some score) rows = PutsScores table event first second score rows
 
-abbrev pub changed_if : Option Changes → Content → Content
-changed_if None content = content
-changed_if (Some changes) content = changed changes content
+abbrev pub changed_if : Version → Option Changes → Content → Content
+changed_if version None content = content
+changed_if version (Some changes) content = changed version changes content
+
+abbrev pub FitsIfAny : Version → Option Changes → Type 0
+FitsIfAny version None = Unit {0}
+FitsIfAny version (Some changes) = FitsVersion version changes
+
+-- The rows to upsert fit the club's schema version, and turn the tables of one state into those of the other.
+pub record Makes (old new : ClubState) (changes : Option Changes) : Type 0 where
+  pub fits : FitsIfAny (version_of old) changes
+  pub rows : AreSame (changed_if (version_of old) changes (tables old)) (tables new)
 
 -- ---- games that start
 
@@ -272,4 +296,4 @@ pub record IsDecidedIn {P M E T : Type 0} (laws : GameRules P M E T) (terms : Te
 -- The effect has the outcome of the step, and rows that turn the old state's tables into the new state's.
 pub record IsDecided (s : ClubState) (after : Outcome ClubState) (decided : CommandEffect) : Type 0 where
   pub answer : outcome_of decided.outcome ≡ answered after
-  pub rows : AreSame (changed_if decided.changes (tables s)) (tables (state_after s after))
+  pub makes : Makes s (state_after s after) decided.changes

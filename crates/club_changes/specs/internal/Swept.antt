@@ -6,7 +6,7 @@ use Rattle.store_tables.specs.Changes.{HaveSame}
 use Rattle.store_tables.specs.internal.Changes.{put_rows}
 use Rattle.store_tables.specs.Names.{tree_of}
 use Rattle.store_tables.specs.declared.names.Table.TheVariants.{Members, Events, Challenges, Moves, Games, Seen}
-use Rattle.store_tables.specs.declared.names.Table.TheVariants.{Scores, EventRules}
+use Rattle.store_tables.specs.declared.names.Table.TheVariants.{Scores, EventRules, Keys, Rulings, Closings}
 use Rattle.club_core.specs.State.{is_late_any, with_swept}
 use Rattle.club_rows.specs.Club.{ClubState, both_games, tables}
 use Rattle.club_changes.specs.declared.swept.rows.SweptRows.{SweptRows}
@@ -28,3 +28,6 @@ pub record LeavesOthers (s : ClubState) (moment : ℕ) : Type 0 where
   pub challenges_stay : tables (with_swept both_games s moment) (tree_of Challenges) ≡ tables s (tree_of Challenges)
   pub moves_stay : tables (with_swept both_games s moment) (tree_of Moves) ≡ tables s (tree_of Moves)
   pub seen_stays : tables (with_swept both_games s moment) (tree_of Seen) ≡ tables s (tree_of Seen)
+  pub keys_stay : tables (with_swept both_games s moment) (tree_of Keys) ≡ tables s (tree_of Keys)
+  pub rulings_stay : tables (with_swept both_games s moment) (tree_of Rulings) ≡ tables s (tree_of Rulings)
+  pub closings_stay : tables (with_swept both_games s moment) (tree_of Closings) ≡ tables s (tree_of Closings)

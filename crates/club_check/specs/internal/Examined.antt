@@ -29,13 +29,14 @@ use Rattle.store_tables.specs.declared.names.Table.TheVariants.{Scores}
 use Rattle.club_audit.specs.internal.Audit.{AreApartGames, HasPeople, until}
 use Rattle.club_audit.specs.FirstWrong.{order}
 use Rattle.club_audit.specs.internal.ChallengeAudit.{AreChallenges}
+use Rattle.club_audit.specs.internal.ClosingAudit.{IsClosedBy}
 use Rattle.club_core.specs.declared.challenges.Challenge.{Challenge}
 use Rattle.club_audit.specs.internal.Standings.{AreGamesOf}
 use Rattle.club_check.specs.internal.Places.{IsRegisterOf, last_moment}
 use Rattle.club_check.specs.internal.RightMoves.{GamesWrong, HasMovesOf, HaveMovesOf, MovesWrong, SeenWrong, beyond}
 use Rattle.club_check.specs.internal.RightMoves.{without}
 use Rattle.club_check.specs.Versions.{HasClub}
-use Rattle.club_changes.specs.Steps.{HaveSame}
+use Rattle.store_tables.specs.Changes.{HaveSame}
 use Rattle.club_check.specs.declared.fault.OpenFault.{OpenFault}
 use Rattle.club_check.specs.declared.fault.OpenFault.TheVariants.{Damaged}
 
@@ -197,6 +198,7 @@ pub record AreScoresExamined (rows : Rows) (old new : State) : Type 0 where
 pub record AreExamined (rows : Rows) (old new : State) : Type 0 where
   pub moment : ℕ
   pub last : (rows.meta.last ≡ pos moment) × (moment ≤ last_moment)
+  pub closed_by : Each (IsClosedBy moment) rows.closings.items
   pub challenges : (cs : List Challenge) × AreChallenges cs rows
   pub games : AreApartGames rows.games.items
   pub play : IsPlayExamined rows (Some moment) None old new

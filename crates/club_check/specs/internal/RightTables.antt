@@ -1,25 +1,27 @@
 -- When the rows of a table are right, given the tables before it, and which table an error names. No promise of the
 -- program rests on these definitions.
-use Rattle.std.specs.Prelude.{◌≡◌, ◌⊎◌, ◌<◌, List, length, map, Option, Some}
+use Rattle.std.specs.Prelude.{◌≡◌, ◌≢◌, ◌⊎◌, ◌<◌, List, length, map, Option, Some}
 use Rattle.sqlite.specs.Effect.{Database}
 use Rattle.sqlite.specs.Order.{Row}
 use Rattle.store_tables.specs.Placed.{club_trees}
 use Rattle.store_tables.specs.Cells.{event_cells, game_cells}
+use Rattle.store_tables.specs.internal.Cells.{member_cells}
 use Rattle.store_tables.specs.Changes.{HaveSame}
 use Rattle.store_tables.specs.Content.{Keeps}
 use Rattle.store_tables.specs.Contents.{Content}
 use Rattle.store_tables.specs.declared.names.Table.{Table}
-use Rattle.store_tables.specs.declared.names.Table.TheVariants.{Events, Challenges, Moves, Games}
-use Rattle.store_tables.specs.declared.names.Table.TheVariants.{Seen, Scores, Meta}
+use Rattle.store_tables.specs.declared.names.Table.TheVariants.{Events, Challenges, Members, Moves, Games}
+use Rattle.store_tables.specs.declared.names.Table.TheVariants.{Seen, Scores, Meta, Rulings}
 use Rattle.store_tables.specs.declared.names.Version.{Version}
 use Rattle.store_tables.specs.declared.rows.EventRow.{EventRow}
+use Rattle.store_tables.specs.declared.rows.MemberRow.{MemberRow}
 use Rattle.store_tables.specs.declared.rows.Rows.{Rows}
 use Rattle.store_tables.specs.Names.{tree_of}
 use Rattle.store_tables.specs.Tables.{standing}
 use Rattle.club_rows.specs.Club.{ClubState, IsClub, both_games, tables}
 use Rattle.club_rows.specs.EachOnce.{AreEachOnce}
 use Rattle.club_rows.specs.Scores.{scores_in}
-use Rattle.club_rows.specs.Tables.{event_row, numbered_from, row_of_game}
+use Rattle.club_rows.specs.Tables.{event_row, member_row, numbered_from, row_of_game}
 use Rattle.club_core.specs.declared.challenges.Challenge.{Challenge}
 use Rattle.club_audit.specs.internal.Audit.{AreApartGames, HasPeople, until}
 use Rattle.club_audit.specs.internal.ChallengeAudit.{AreChallenges}
@@ -38,7 +40,7 @@ use Rattle.club_check.specs.RightTables.{IsRight}
 
 -- moves, games or positions
 abbrev pub IsOfPlay : Table → Type 0
-IsOfPlay t = (order Challenges < order t) × (order t < order Scores)
+IsOfPlay t = (order Challenges < order t) × (order t < order Scores) × (t ≢ Rulings)
 
 -- ---- table by table
 
@@ -133,3 +135,9 @@ abbrev pub TellsEvents : List EventRow → Database → Type 0
 TellsEvents rows db = (version : Version) (content : Content) → HoldsRows version content db
     → (s : ClubState) → HaveSame (content (tree_of Events)) (tables s (tree_of Events))
     → map event_cells rows ≡ numbered_from event_row 1 s.events
+
+-- the rows of members of every club whose members the database may hold
+abbrev pub TellsMembers : List MemberRow → Database → Type 0
+TellsMembers rows db = (version : Version) (content : Content) → HoldsRows version content db
+    → (s : ClubState) → HaveSame (content (tree_of Members)) (tables s (tree_of Members))
+    → map member_cells rows ≡ numbered_from member_row 1 s.members

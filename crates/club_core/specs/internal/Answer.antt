@@ -16,7 +16,12 @@ use Rattle.club_core.specs.declared.seats.Pairing.{Pairing}
 use Rattle.club_core.specs.Answer.{reply_of}
 
 abbrev pub member_of : given_member.Member → Member
-member_of m = record { name = string_bytes m.name; key = string_bytes m.key }
+member_of m =
+    record {
+      name = string_bytes m.name;
+      key = string_bytes m.key;
+      later = map (λ k. string_bytes k) m.later.items;
+    }
 
 abbrev pub members_of : List given_member.Member → List Member
 members_of ms = map member_of ms
@@ -27,6 +32,7 @@ event_of e =
       name = string_bytes e.name;
       game = e.game;
       terms = record { budget = e.budget; increment = e.increment; declares = e.declares };
+      closed = e.closed;
     }
 
 abbrev pub events_of : List given_event.Event → List Event

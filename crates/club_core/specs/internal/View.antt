@@ -69,6 +69,8 @@ answer_with rules end (given.ChallengeOpened number) = given.ChallengeOpened num
 answer_with rules end (given.ChallengeWithdrawn number) = given.ChallengeWithdrawn number
 answer_with rules end (given.ChallengeRefused number) = given.ChallengeRefused number
 answer_with rules end (given.ChallengeAccepted number game) = given.ChallengeAccepted number game
+answer_with rules end (given.KeyGiven number) = given.KeyGiven number
+answer_with rules end given.EventClosed = given.EventClosed
 
 -- the decision with this end and this result
 abbrev pub concluded : {R P M E T : Type 0} →

@@ -5,6 +5,7 @@ use Rattle.std.specs.Io.KnownBytes.{Appends}
 use Rattle.sqlite.specs.Tree.{Trees}
 use Rattle.sqlite.specs.State.{State}
 use Rattle.store_tables.specs.Over.{Neighbours}
+use Rattle.store_tables.specs.declared.names.Version.{Version}
 use Rattle.club_requests.specs.declared.answers.Outcome.TheVariants as outcome
 use Rattle.club_requests.specs.declared.refusals.Refusal.{Refusal}
 use Rattle.club_rows.specs.Club.{ClubState}
@@ -38,10 +39,11 @@ ask_report (Err (ask_fault.Club fault)) = StoreFailed fault
 -- ---- upgrade
 
 abbrev pub upgrade_report : Upgrade → Report
-upgrade_report Done = Upgraded
-upgrade_report Already = AlreadyUpgraded
+upgrade_report (Done from) = Upgraded from
+upgrade_report (Already version) = AlreadyUpgraded version
 
--- the result of the upgrade of a club of schema 1, beside the same foreign tables
-pub record IsUpgradeResult (them : Neighbours) (s : ClubState) (report : Report) (new : State) : Type 0 where
-  pub answer : IsUpgraded report
-  pub leaves : (db : Trees) → new.may_leave db → AreCarried them s report db
+-- the result of the upgrade of a club of this schema to the schema of these neighbours
+pub record IsUpgradeResult (from : Version) (them : Neighbours) (s : ClubState) (report : Report) (new : State) : Type 0
+  where
+    pub answer : IsUpgraded from report
+    pub leaves : (db : Trees) → new.may_leave db → AreCarried from them s report db

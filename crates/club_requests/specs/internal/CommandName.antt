@@ -25,4 +25,6 @@ command_name (command.Seat given) = Some (codes "seat")
 command_name (command.Import given) = Some (import_name given.format)
 command_name (command.OnGame given) = game_command_name given.command
 command_name command.Sweep = Some (codes "sweep")
+command_name (command.NewKey given) = Some (codes "key")
+command_name (command.CloseEvent given) = Some (codes "close")
 command_name _ = None

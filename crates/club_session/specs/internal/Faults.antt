@@ -5,12 +5,13 @@ use Rattle.store.specs.declared.fault.StoreFault.TheVariants as club
 use Rattle.store.specs.declared.fault.AskFault.{AskFault}
 use Rattle.store.specs.declared.fault.AskFault.TheVariants as asking
 use Rattle.http_desk.specs.declared.faults.ClubFault.{ClubFault}
-use Rattle.http_desk.specs.declared.faults.ClubFault.TheVariants.{Store, Reopen, Memory}
+use Rattle.http_desk.specs.declared.faults.ClubFault.TheVariants.{Store, Reopen, Memory, Schema}
 
 abbrev pub fault_of_store : StoreFault → ClubFault
 fault_of_store club.Store = Store
 fault_of_store club.Reopen = Reopen
 fault_of_store club.Memory = Memory
+fault_of_store (club.Schema number) = Schema
 
 abbrev pub club_fault : {A : Type 0} → Result A StoreFault → Result A ClubFault
 club_fault (Ok found) = Ok found

@@ -7,9 +7,12 @@ use Rattle.cli.specs.declared.words.Task.{Task}
 use Rattle.cli.specs.declared.words.Task.TheVariants as task
 use Rattle.cli.specs.declared.words.Invocation.{Invocation}
 use Rattle.cli.specs.declared.words.Invocation.TheVariants as words
-use Rattle.cli.specs.internal.Imports.{task_with}
+use Rattle.cli.specs.internal.Inputs.{IsTaskWith}
 use Rattle.control_socket.specs.declared.orders.Operation.{Operation}
 use Rattle.control_socket.specs.declared.orders.Operation.TheVariants.{Command, Question}
+use Rattle.http_desk.specs.Served.{IsOfCall, IsOfCommand}
+use Rattle.http_desk.specs.declared.faults.ClubFault.{ClubFault}
+use Rattle.club_core.specs.Answer.{command_of}
 
 -- the words, joined by NUL, which no command line has
 abbrev pub joined : List (List ℕ) → List ℕ
@@ -31,8 +34,14 @@ operation_of (task.Request command) = Some (Command command)
 operation_of (task.Ask question) = Some (Question question)
 operation_of _ = None
 
--- the operation of a command line with its record; batches, round robins and `serve` have none
+-- the operation of a command line with its record or its new key; batches, round robins and `serve` have none
 abbrev pub IsOperationOf : Invocation → List ℕ → Option Operation → Type 0
 IsOperationOf (words.Order order) text errand =
-    (given : Vec ℕ Global) × (given.items ≡ text) × (errand ≡ operation_of (task_with given order.task))
+    (given : Vec ℕ Global) × (task : Task) × (given.items ≡ text) × IsTaskWith given order.task task
+    × (errand ≡ operation_of task)
 IsOperationOf _ text errand = errand ≡ None
+
+-- the faults of an operation on an open club
+abbrev pub IsOfOperation : Operation → ClubFault → Type 0
+IsOfOperation (Command command) fault = IsOfCommand (command_of command) fault
+IsOfOperation (Question question) fault = IsOfCall fault

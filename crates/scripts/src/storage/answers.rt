@@ -66,18 +66,37 @@ fn give(
     }
 }
 
-fn new_files(alloc: Global) -> Result<Held> {
-    let (begun, files) = create_in_files(alloc, empty_files(alloc, Stop::Never), Options::new(1));
+fn new_files(alloc: Global, has_arbiter: bool) -> Result<Held> {
+    let files = empty_files(alloc, Stop::Never);
+    let (begun, files) = create_in_files(alloc, files, Options::new(1), has_arbiter);
     begun?;
     Ok(Held::Files(files))
 }
 
-fn new_held(alloc: Global, place: &str) -> Result<Held> {
-    match place {
-        "" => Ok(Held::Club(new_club(alloc)?)),
-        "in files" => new_files(alloc),
-        _ => stopped_held(CourseStart::Nothing, place),
+// Whether the words begin with `arbiter`, and those after it.
+fn with_arbiter(words: &str) -> (bool, &str) {
+    match words.strip_prefix("arbiter") {
+        Some(rest) => (true, rest.trim()),
+        None => (false, words),
     }
+}
+
+fn new_held(alloc: Global, words: &str) -> Result<Held> {
+    let (has_arbiter, place) = with_arbiter(words);
+    match place {
+        "" => Ok(Held::Club(new_club(alloc, has_arbiter)?)),
+        "in files" => new_files(alloc, has_arbiter),
+        _ => stopped_held(CourseStart::Nothing { has_arbiter }, place),
+    }
+}
+
+// Whether the only word is `arbiter`; an error if there is another.
+fn is_for_arbiter(words: &str) -> Result<bool> {
+    let (has_arbiter, rest) = with_arbiter(words);
+    if !rest.is_empty() {
+        bail!("no such word");
+    }
+    Ok(has_arbiter)
 }
 
 // The state in which the next requests are crashed at each disk call.
@@ -153,23 +172,41 @@ fn show_table(alloc: Global, held: Held, event: &str) -> Result<(Held, String)> 
     Ok((Held::Club(club), text?))
 }
 
-fn upgrades(alloc: Global, held: Held) -> Result<(Held, String)> {
+fn creates(alloc: Global, held: Held, words: &str) -> Result<(Held, String)> {
+    let has_arbiter = is_for_arbiter(words)?;
+    outcome_text(
+        alloc,
+        create_club(alloc, held.into_connection()?, has_arbiter),
+        "ready",
+    )
+}
+
+fn upgrades(alloc: Global, held: Held, words: &str) -> Result<(Held, String)> {
+    let has_arbiter = is_for_arbiter(words)?;
     match held {
         Held::Files(files) => {
-            let (done, files) = upgrade_in(alloc, files);
+            let (done, files) = upgrade_in(alloc, files, has_arbiter);
             Ok((Held::Files(files), told_upgrade(alloc, done)?))
         }
         held => {
-            let (done, conn) = upgrade_club(alloc, held.into_connection()?);
+            let (done, conn) = upgrade_club(alloc, held.into_connection()?, has_arbiter);
             Ok((Held::Database(conn), told_upgrade(alloc, done)?))
         }
     }
 }
 
-// The result of an upgrade that is crashed at each disk call.
-fn stop_upgrade(alloc: Global, held: Held, report: &mut RunReport) -> Result<(Held, String)> {
+// The result of an upgrade that is crashed at each disk call: `upgrade` or `upgrade arbiter`.
+fn stop_upgrade(
+    alloc: Global,
+    held: Held,
+    words: &str,
+    report: &mut RunReport,
+) -> Result<(Held, String)> {
+    let words = words
+        .strip_prefix("upgrade")
+        .context("only an upgrade is stopped so")?;
     let files = held.into_files()?;
-    let whole = whole_or_old(alloc, &files)?;
+    let whole = whole_or_old(alloc, &files, is_for_arbiter(words.trim())?)?;
     report.add_stops(whole.stops);
     Ok((Held::Files(files), whole.told))
 }
@@ -190,13 +227,13 @@ fn answer(
         "database" => done(alloc, empty_held(alloc, line.asked)),
         "again" => done(alloc, retaken_held(alloc, held, line.asked)),
         "sql" => done(alloc, held.execute_sql(alloc, line.asked)),
-        "upgrades" => upgrades(alloc, held),
-        "creates" => outcome_text(alloc, create_club(alloc, held.into_connection()?), "ready"),
+        "upgrades" => upgrades(alloc, held, line.asked),
+        "creates" => creates(alloc, held, line.asked),
         "opens" => opens(alloc, held),
         "damage" => damage(alloc, held, line.asked),
         "rows" => select(alloc, held, line.asked),
         "table" => show_table(alloc, held, line.asked),
-        "stopped" if line.asked == "upgrade" => stop_upgrade(alloc, held, report),
+        "stopped" => stop_upgrade(alloc, held, line.asked, report),
         _ => bail!("no line begins so"),
     }
 }

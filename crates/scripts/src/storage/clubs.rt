@@ -9,6 +9,7 @@ use sqlite::{Connection, MemStore};
 use std::alloc::Global;
 use store::{Club, OpenFault, Run, Unopened, Upgrade, adopt, create, upgrade};
 use store_sql::commit_changes;
+use store_tables::Version;
 
 /// Opens the club in a database, or returns the reason.
 pub fn open_club(
@@ -25,13 +26,14 @@ pub fn open_club(
     }
 }
 
-/// Creates a club in a database, or returns the reason.
+/// Creates a club with or without an arbiter in a database, or returns the reason.
 pub fn create_club(
     alloc: Global,
     conn: Connection<MemStore>,
+    has_arbiter: bool,
 ) -> Result<Club<MemStore>, Unopened<MemStore>> {
     if conn.is_autocommit() {
-        create(alloc, conn)
+        create(alloc, conn, has_arbiter)
     } else {
         Err(Unopened {
             fault: OpenFault::Store,
@@ -40,23 +42,29 @@ pub fn create_club(
     }
 }
 
-/// Upgrades a database; returns the result and the database.
+/// Upgrades a database to a club with or without an arbiter; returns the result and the database.
 pub fn upgrade_club(
     alloc: Global,
     conn: Connection<MemStore>,
+    has_arbiter: bool,
 ) -> (Result<Upgrade, OpenFault>, Connection<MemStore>) {
     if !conn.is_autocommit() {
         return (Err(OpenFault::Store), conn);
     }
-    match upgrade(alloc, conn) {
+    let upgraded = if has_arbiter {
+        upgrade(alloc, conn, Version::V3)
+    } else {
+        upgrade(alloc, conn, Version::V2)
+    };
+    match upgraded {
         Ok((conn, done)) => (Ok(done), conn),
         Err(unopened) => (Err(unopened.fault), unopened.conn),
     }
 }
 
-/// Creates a club in an empty database.
-pub fn new_club(alloc: Global) -> Result<Club<MemStore>> {
-    match create_club(alloc, Connection::open_in_memory(alloc)?) {
+/// Creates a club with or without an arbiter in an empty database.
+pub fn new_club(alloc: Global, has_arbiter: bool) -> Result<Club<MemStore>> {
+    match create_club(alloc, Connection::open_in_memory(alloc)?, has_arbiter) {
         Ok(club) => Ok(club),
         Err(unopened) => Err(Error::from(unopened.fault)),
     }
@@ -106,10 +114,10 @@ pub fn run(alloc: Global, club: Club<MemStore>, requests: &[Request]) -> (Club<M
 /// Copies the rows of a database into a new club. They are written twice, so that the second time each replaces its
 /// own.
 pub fn copy_of(alloc: Global, conn: &mut Connection<MemStore>) -> Result<Connection<MemStore>> {
-    let rows = rows_of(alloc, conn)?;
-    let mut copy = new_club(alloc)?.into_connection();
-    commit_changes(&mut copy, &rows)?;
-    commit_changes(&mut copy, &rows)?;
+    let stored = rows_of(alloc, conn)?;
+    let mut copy = new_club(alloc, stored.version == Version::V3)?.into_connection();
+    commit_changes(&mut copy, stored.version, &stored.rows)?;
+    commit_changes(&mut copy, stored.version, &stored.rows)?;
     Ok(copy)
 }
 

@@ -3,12 +3,12 @@
 use crate::storage::files::{create_in_files, rows_in, run_until_fault, session};
 use crate::storage::held::Disks;
 use crate::storage::images::{ClubFile, Image, Stop, Stoppable, empty_files, stop_everywhere};
+use crate::storage::rows::StoredRows;
 use anyhow::{Context, Result, bail};
 use club_requests::{Outcome, Request};
 use sqlite::Options;
 use std::alloc::Global;
 use store::OpenFault;
-use store_tables::Changes;
 
 /// What was answered before the crash.
 #[derive(Clone, Copy, PartialEq)]
@@ -22,13 +22,21 @@ enum Done {
 /// The files before a run.
 #[derive(Drop)]
 pub enum CourseStart {
-    /// Both files are empty; the run begins with the creation of the club.
-    Nothing,
+    /// Both files are empty; the run begins with the creation of a club with or without an arbiter.
+    Nothing { has_arbiter: bool },
     /// The files of a club.
     Club(Image),
 }
 
 impl CourseStart {
+    /// Whether the run begins with the creation of a club with an arbiter.
+    fn creates_arbiter(&self) -> bool {
+        match self {
+            CourseStart::Nothing { has_arbiter } => *has_arbiter,
+            CourseStart::Club(_) => false,
+        }
+    }
+
     /// A club in files with this injected crash, or the reason why there is none.
     fn club(
         &self,
@@ -37,7 +45,10 @@ impl CourseStart {
         options: Options,
     ) -> Result<(Result<(), OpenFault>, Disks)> {
         match self {
-            CourseStart::Nothing => Ok(create_in_files(alloc, empty_files(alloc, stop), options)),
+            CourseStart::Nothing { has_arbiter } => {
+                let files = empty_files(alloc, stop);
+                Ok(create_in_files(alloc, files, options, *has_arbiter))
+            }
             CourseStart::Club(image) => Ok((Ok(()), image.files(alloc, stop)?)),
         }
     }
@@ -51,7 +62,7 @@ struct Course<'a> {
     /// The checkpoint threshold in frames of the log.
     frames: usize,
     outcomes: Vec<String>,
-    rows: Vec<Changes>,
+    rows: Vec<StoredRows>,
 }
 
 fn outcome_texts(alloc: Global, outcomes: &[Outcome]) -> Result<Vec<String>> {
@@ -178,7 +189,8 @@ impl<'a> Course<'a> {
             (Ok(_), Done::Nothing) => self.is_whole(alloc, files, 0),
             (Ok(_), Done::Requests(answered)) => self.is_whole(alloc, files, answered),
             (Err(OpenFault::Foreign), Done::Nothing) => {
-                let (made, files) = create_in_files(alloc, files, Options::new(1));
+                let has_arbiter = self.start.creates_arbiter();
+                let (made, files) = create_in_files(alloc, files, Options::new(1), has_arbiter);
                 made?;
                 self.is_whole(alloc, files, 0)
             }

@@ -2,7 +2,7 @@
 
 ghost use Rattle.std.specs.Prelude.{◌≡◌, false, IfOk};
 
-use crate::storage::rows::rows_of;
+use crate::storage::rows::{StoredRows, rows_of};
 use anyhow::{Error, Result, bail};
 use club_requests::{Outcome, Request};
 use sqlite::{Connection, FileStore, Files, Options};
@@ -10,7 +10,7 @@ use sqlite_disk::Disk;
 use std::alloc::Global;
 use store::{OpenFault, Run, StoreFault, Upgrade, create, resume, upgrade};
 use store_files::{close, close_club, serve_session};
-use store_tables::Changes;
+use store_tables::Version;
 
 /// Opens the files; returns them if that fails.
 fn connected<D: Disk + Drop>(
@@ -29,17 +29,18 @@ fn connected<D: Disk + Drop>(
     }
 }
 
-/// Creates a club in the files; returns the result and the files.
+/// Creates a club with or without an arbiter in the files; returns the result and the files.
 pub fn create_in_files<D: Disk + Drop>(
     alloc: Global,
     files: Files<D>,
     options: Options,
+    has_arbiter: bool,
 ) -> (Result<(), OpenFault>, Files<D>) {
     let conn = match connected(alloc, files, options) {
         Ok(conn) => conn,
         Err(files) => return (Err(OpenFault::Store), files),
     };
-    match create(alloc, conn) {
+    match create(alloc, conn, has_arbiter) {
         Ok(club) => (Ok(()), close_club(club).close()),
         Err(unopened) => (Err(unopened.fault), close(unopened.conn).close()),
     }
@@ -102,10 +103,12 @@ pub fn run_until_fault<D: Disk + Drop>(
     (shut_after(run, &again), close_club(club).close())
 }
 
-/// Upgrades the club in the files, with a checkpoint at every commit; returns the result and the files.
+/// Upgrades the club in the files to one with or without an arbiter, with a checkpoint at every commit; returns the
+/// result and the files.
 pub fn upgrade_in<D: Disk + Drop>(
     alloc: Global,
     files: Files<D>,
+    has_arbiter: bool,
 ) -> (Result<Upgrade, OpenFault>, Files<D>) {
     let options = Options {
         checkpoint_frames: 1,
@@ -115,7 +118,12 @@ pub fn upgrade_in<D: Disk + Drop>(
         Ok(conn) => conn,
         Err(files) => return (Err(OpenFault::Store), files),
     };
-    match upgrade(alloc, conn) {
+    let upgraded = if has_arbiter {
+        upgrade(alloc, conn, Version::V3)
+    } else {
+        upgrade(alloc, conn, Version::V2)
+    };
+    match upgraded {
         Ok((conn, done)) => (Ok(done), close(conn).close()),
         Err(unopened) => (Err(unopened.fault), close(unopened.conn).close()),
     }
@@ -140,7 +148,7 @@ fn not_opened() -> Result<()> {
 }
 
 /// The rows in the files, and the files.
-pub fn rows_in<D: Disk + Drop>(alloc: Global, files: Files<D>) -> (Result<Changes>, Files<D>) {
+pub fn rows_in<D: Disk + Drop>(alloc: Global, files: Files<D>) -> (Result<StoredRows>, Files<D>) {
     let mut conn = match connected(alloc, files, Options::new(1)) {
         Ok(conn) => conn,
         Err(files) => return (unread(), files),
@@ -149,6 +157,6 @@ pub fn rows_in<D: Disk + Drop>(alloc: Global, files: Files<D>) -> (Result<Change
     (rows, close(conn).close())
 }
 
-fn unread() -> Result<Changes> {
+fn unread() -> Result<StoredRows> {
     bail!("the files are not opened")
 }

@@ -3,8 +3,8 @@
 use anyhow::{Context, Result, bail};
 use clocks::Moment;
 use club_requests::{
-    AddEvent, AddMember, AnswerChallenge, Command, GameCommand, Import, OnGame, OpenChallenge,
-    Request, Seat, Who, Withdraw,
+    AddEvent, AddMember, AnswerChallenge, CloseEvent, Command, GameCommand, Import, NewKey, OnGame,
+    OpenChallenge, Request, Seat, Who, Withdraw,
 };
 use club_rules::{GameKind, RecordFormat};
 use std::alloc::Global;
@@ -127,6 +127,14 @@ fn command(alloc: Global, words: &[&str]) -> Result<Command> {
             event: text(alloc, event)?,
             first: text(alloc, first)?,
             second: text(alloc, second)?,
+        })),
+        ["key", name, number, key] => Ok(Command::NewKey(NewKey {
+            name: text(alloc, name)?,
+            number: number.parse()?,
+            key: text(alloc, key)?,
+        })),
+        ["close", event] => Ok(Command::CloseEvent(CloseEvent {
+            event: text(alloc, event)?,
         })),
         ["sweep"] => Ok(Command::Sweep),
         _ => challenge_command(alloc, words),

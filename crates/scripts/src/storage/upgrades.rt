@@ -3,35 +3,41 @@
 use crate::storage::files::{rows_in, upgrade_in};
 use crate::storage::held::Disks;
 use crate::storage::images::{ClubFile, Image, Stop, Stoppable, stop_everywhere};
+use crate::storage::rows::StoredRows;
 use anyhow::{Result, bail};
 use std::alloc::Global;
 use store::{OpenFault, Upgrade};
-use store_tables::Changes;
 
-/// An upgrade: the files before it, and their rows after it.
+/// An upgrade: the files before it, whether it gives the club an arbiter, and the rows after it.
 #[derive(Drop)]
 struct Trial {
     image: Image,
-    after: Changes,
+    has_arbiter: bool,
+    after: StoredRows,
 }
 
 impl Trial {
-    /// Whether files with these bytes hold schema 1 or 2: an upgrade has the result that it has without a crash, and it
-    /// is a repeat if the first was answered.
+    /// Whether files with these bytes hold the schema before or the one after: an upgrade has the result that it has
+    /// without a crash, and it is a repeat if the first was answered.
     fn is_found_whole(&self, alloc: Global, answered: bool, image: &Image) -> Result<bool> {
-        let (upgraded, files) = upgrade_in(alloc, image.files(alloc, Stop::Never)?);
+        let (upgraded, files) = upgrade_in(
+            alloc,
+            image.files(alloc, Stop::Never)?,
+            self.has_arbiter,
+        );
         let (rows, _files) = rows_in(alloc, files);
-        let is_new = upgraded? == Upgrade::Already;
+        let is_new = upgraded? == Upgrade::Already(self.after.version);
         Ok(rows? == self.after && (is_new || !answered))
     }
 }
 
 impl Stoppable for Trial {
     fn try_stop(&self, alloc: Global, file: ClubFile, calls: u64) -> Result<Option<bool>> {
-        let (upgraded, left) = upgrade_in(alloc, self.image.files(alloc, file.stop(calls))?);
+        let files = self.image.files(alloc, file.stop(calls))?;
+        let (upgraded, left) = upgrade_in(alloc, files, self.has_arbiter);
         let answered = match upgraded {
-            Ok(Upgrade::Done) => true,
-            Ok(Upgrade::Already) => bail!("upgraded already"),
+            Ok(Upgrade::Done(_)) => true,
+            Ok(Upgrade::Already(_)) => bail!("upgraded already"),
             Err(OpenFault::Store) => false,
             Err(fault) => bail!("a stop is told as {fault}"),
         };
@@ -48,8 +54,8 @@ impl Stoppable for Trial {
 /// The result of an upgrade, as the program prints it.
 pub fn told_upgrade(alloc: Global, upgraded: Result<Upgrade, OpenFault>) -> Result<String> {
     match upgraded {
-        Ok(Upgrade::Done) => Ok(String::from_str(alloc, "upgraded")?),
-        Ok(Upgrade::Already) => Ok(String::from_str(alloc, "repeated upgrade")?),
+        Ok(Upgrade::Done(_)) => Ok(String::from_str(alloc, "upgraded")?),
+        Ok(Upgrade::Already(_)) => Ok(String::from_str(alloc, "repeated upgrade")?),
         Err(fault) => Ok(format!(in alloc; "{fault}")?),
     }
 }
@@ -63,14 +69,16 @@ pub struct WholeUpgrade {
     pub stops: u64,
 }
 
-/// Upgrades the files with a crash at each disk call; an error if an unexpected state is found after one.
-pub fn whole_or_old(alloc: Global, files: &Disks) -> Result<WholeUpgrade> {
+/// Upgrades the files to a club with or without an arbiter, with a crash at each disk call; an error if an unexpected
+/// state is found after one.
+pub fn whole_or_old(alloc: Global, files: &Disks, has_arbiter: bool) -> Result<WholeUpgrade> {
     let image = Image::written_image(alloc, files)?;
-    let (upgraded, left) = upgrade_in(alloc, image.files(alloc, Stop::Never)?);
+    let (upgraded, left) = upgrade_in(alloc, image.files(alloc, Stop::Never)?, has_arbiter);
     let (after, _files) = rows_in(alloc, left);
     let told = told_upgrade(alloc, upgraded)?;
     let trial = Trial {
         image,
+        has_arbiter,
         after: after?,
     };
     let stops = stop_everywhere(alloc, &trial)?;

@@ -3,13 +3,13 @@
 ghost use Rattle.std.specs.Prelude.{◌≡◌, ◌⊎◌, true, false, Err, IfOk, IfErr, OnOk};
 ghost use Rattle.sqlite.specs.State.{HasCleanDisk};
 ghost use Rattle.sqlite.specs.Held.{state};
-ghost use Rattle.store_tables.specs.Over.{HasRows};
 ghost use Rattle.store_tables.specs.Reading.{Reads};
-ghost use Rattle.club_rows.specs.Club.{ClubState, IsClub, tables};
+ghost use Rattle.club_rows.specs.Club.{ClubState};
+ghost use Rattle.store.specs.Clubs.{Asks};
 ghost use Rattle.club_answers.specs.AnswerTexts.{HasWrittenAnswer, HasShownSome};
 ghost use Rattle.store.specs.Asking.{stays_open};
 
-use super::Club;
+use super::{Club, version_of};
 use crate::fault::{AskFault, StoreFault};
 use clocks::Moment;
 use club_answers::{ViewFault, answer};
@@ -38,6 +38,7 @@ impl<S: Alter> Club<S> {
         moment: Moment,
         writer: &mut W,
     ) -> Result<Option<Refusal>, AskFault>
+        ensures same_schema { self.new.has_arbiter ≡ self.old.has_arbiter }
         ensures shut { self.old.needs_reopening ≡ true →
             (result ≡ Err (AskFault.Club StoreFault.Reopen)) × (self.new ≡ self.old) × (writer.new ≡ writer.old) }
         ensures stays_open { OnOk result (self.new.needs_reopening ≡ false) }
@@ -48,16 +49,23 @@ impl<S: Alter> Club<S> {
         ensures reads { Reads (stays_open result) (state S.Store self.old.connection)
             (state S.Store self.new.connection) }
         ensures shown { HasCleanDisk (state S.Store self.new.connection) → IfOk result (λ refusal. (s : ClubState) →
-            IsClub s → HasRows (tables s) (state S.Store self.old.connection) →
+            Asks self.old.has_arbiter (state S.Store self.old.connection) s →
             HasWrittenAnswer s moment question.now refusal (W.contents writer.old) (W.contents writer.new)) }
-        ensures begun { HasCleanDisk (state S.Store self.new.connection) → (s : ClubState) → IsClub s →
-            HasRows (tables s) (state S.Store self.old.connection) →
+        ensures begun { HasCleanDisk (state S.Store self.new.connection) → (s : ClubState) →
+            Asks self.old.has_arbiter (state S.Store self.old.connection) s →
             HasShownSome s moment question.now (W.contents writer.old) (W.contents writer.new) }
     {
         if self.needs_reopening {
             return Err(AskFault::Club(StoreFault::Reopen));
         }
-        match answer(alloc, &mut self.connection, question, moment, writer) {
+        match answer(
+            alloc,
+            version_of(self.has_arbiter),
+            &mut self.connection,
+            question,
+            moment,
+            writer,
+        ) {
             Ok(refusal) => Ok(refusal),
             Err(ViewFault::Output) => Err(AskFault::Output),
             Err(ViewFault::Call(fault)) => {

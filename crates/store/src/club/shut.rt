@@ -1,4 +1,4 @@
-//! Whether a club is unavailable after a fault.
+//! Whether a club is unavailable after a fault, and whether it has an arbiter.
 
 ghost use Rattle.std.specs.Prelude.{◌≡◌};
 
@@ -11,5 +11,12 @@ impl<S: Alter> Club<S> {
         ensures { result ≡ self.now.needs_reopening }
     {
         self.needs_reopening
+    }
+
+    /// Whether the club has an arbiter: schema 3, otherwise schema 2.
+    pub fn has_arbiter(&self) -> bool
+        ensures { result ≡ self.now.has_arbiter }
+    {
+        self.has_arbiter
     }
 }

@@ -6,9 +6,9 @@ pub returns-in-Ok-clause-outcomes : goal.returns-in-Ok-clause-outcomes
 returns-in-Ok-clause-outcomes g c clean = c.in-Ok.ensures.outcomes (was_clean _ _ c.close_club.ensures.clean clean)
 
 pub returns-in-Ok-clause-history : goal.returns-in-Ok-clause-history
-returns-in-Ok-clause-history g c clean opens live from version them sessions current led left may found finds =
+returns-in-Ok-clause-history g c clean opens live from version them sessions serves led left may found finds =
     let served = c.in-Ok.ensures.history (was_clean _ _ c.close_club.ensures.clean clean) opens live from version them
-    sessions current in
+    sessions serves in
     ∥∥₁_elim led squash₁ (λ before.
     c.close_club.ensures.history clean from version them _ (served before) left may found finds)
 

@@ -1,23 +1,27 @@
--- The effect of the migration from schema 1 to schema 2. No promise of the program rests on these definitions.
+-- The effect of a migration. No promise of the program rests on these definitions.
 use Rattle.std.specs.Prelude.{◌≡◌, true, List, []}
+use Rattle.std.specs.List.{AllByRecursion}
 use Rattle.sqlite.specs.State.{State}
 use Rattle.store_tables.specs.internal.Changed.{widened}
 use Rattle.store_tables.specs.Contents.{Content}
-use Rattle.store_tables.specs.Migrations.{MigratesTo}
+use Rattle.store_tables.specs.Migrations.{MigratesTo, added_tables}
 use Rattle.store_tables.specs.Names.{tree_of}
 use Rattle.store_tables.specs.Over.{Neighbours}
 use Rattle.store_tables.specs.internal.Over.{HoldsBeside}
 use Rattle.store_tables.specs.Placed.{HasTables}
-use Rattle.store_tables.specs.declared.names.Table.TheVariants.{EventRules}
-use Rattle.store_tables.specs.declared.names.Version.TheVariants.{First, Current}
+use Rattle.store_tables.specs.declared.names.Version.{Version}
 use Rattle.store_tables.specs.declared.rows.EventRuleRow.{EventRuleRow}
 use Rattle.store_tables.specs.declared.rows.MetaRow.{MetaRow}
 
--- Inside a transaction the rows were migrated, with these event rules and this row of `meta`; nothing was committed.
-pub record WidensTo (rules : List EventRuleRow) (meta : MetaRow) (old new : State) : Type 0 where
-  pub holds : (before : Neighbours) → before.version ≡ First → (after : Neighbours) → after.version ≡ Current
-      → MigratesTo before after → HasTables First before.schema → (content : Content)
-      → content (tree_of EventRules) ≡ [] → HoldsBeside before content old.now
-      → HoldsBeside after (widened rules meta content) new.now
+-- the content has no rows of the tables that the later version adds
+abbrev pub HasNoneAdded : Version → Version → Content → Type 0
+HasNoneAdded from to content = AllByRecursion (λ table. content (tree_of table) ≡ []) (added_tables from to)
+
+-- Inside a transaction the rows were migrated from one version to the other, with these event rules and this row of
+-- `meta`; nothing was committed.
+pub record WidensTo (from to : Version) (rules : List EventRuleRow) (meta : MetaRow) (old new : State) : Type 0 where
+  pub holds : (before : Neighbours) → before.version ≡ from → (after : Neighbours) → after.version ≡ to
+      → MigratesTo before after → HasTables from before.schema → (content : Content) → HasNoneAdded from to content
+      → HoldsBeside before content old.now → HoldsBeside after (widened rules meta content) new.now
   pub committed : new.committed ≡ old.committed
   pub inside : new.in_transaction ≡ true

@@ -15,6 +15,9 @@ pub use Rattle.store_tables.specs.declared.rows.MoveRow.{MoveRow}
 pub use Rattle.store_tables.specs.declared.rows.GameTableRow.{GameTableRow}
 pub use Rattle.store_tables.specs.declared.rows.SeenRow.{SeenRow}
 pub use Rattle.store_tables.specs.declared.rows.ScoreRow.{ScoreRow}
+pub use Rattle.store_tables.specs.declared.rows.KeyRow.{KeyRow}
+pub use Rattle.store_tables.specs.declared.rows.RulingRow.{RulingRow}
+pub use Rattle.store_tables.specs.declared.rows.ClosingRow.{ClosingRow}
 
 -- the column values of a row of `meta`
 abbrev pub meta_cells : MetaRow → Row
@@ -37,6 +40,21 @@ challenge_cells r = Int r.member ∷ Int r.number ∷ Int r.event ∷ Int r.othe
 abbrev pub score_cells : ScoreRow → Row
 score_cells r = Int r.event ∷ Int r.member ∷ Int r.opponent ∷ Int r.points ∷ Int r.wins ∷ Int r.draws ∷ Int r.losses
     ∷ []
+
+-- the column values of a row of `keys`
+abbrev pub key_cells : KeyRow → Row
+key_cells r = Int r.member ∷ Int r.number ∷ Text (string_bytes r.key) ∷ []
+
+-- the column values of a row of `rulings`
+abbrev pub ruling_cells : RulingRow → Row
+ruling_cells r =
+    Int r.game ∷ Int r.number ∷ Int r.moment ∷ Int r.ply ∷ Int r.kind ∷ Int r.seconds
+    ∷ or_null (λ s. Text (string_bytes s)) r.result ∷ or_null (λ s. Text (string_bytes s)) r.beneath
+    ∷ or_null (λ s. Text (string_bytes s)) r.beneath_result ∷ []
+
+-- the column values of a row of `closings`
+abbrev pub closing_cells : ClosingRow → Row
+closing_cells r = Int r.event ∷ Int r.moment ∷ []
 
 -- the row has the columns of `meta`, each with a value of its type
 pub record IsMeta (row : Row) : Type 0 where

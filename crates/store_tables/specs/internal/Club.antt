@@ -5,12 +5,13 @@ use Rattle.sqlite.specs.State.{State}
 use Rattle.store_tables.specs.Contents as of_schema
 use Rattle.store_tables.specs.internal.Contents as internal_of_schema
 use Rattle.store_tables.specs.Contents.{Content}
-use Rattle.store_tables.specs.Tables.{club_schema}
+use Rattle.store_tables.specs.Tables.{schema_of}
+use Rattle.store_tables.specs.declared.names.Version.{Version}
 
--- The database has schema 2 and nothing else, and each table has its rows.
-abbrev pub Holds : Database → Content → Type 0
-Holds = of_schema.Holds club_schema
+-- The database has the schema of this version and nothing else, and each table has its rows.
+abbrev pub Holds : Version → Database → Content → Type 0
+Holds version = of_schema.Holds (schema_of version)
 
--- Inside a transaction the rows of schema 2 changed in this way; nothing was committed.
-abbrev pub Steps : (Content → Content) → State → State → Type 0
-Steps = internal_of_schema.Steps club_schema
+-- Inside a transaction the rows of a club of this version changed in this way; nothing was committed.
+abbrev pub Steps : Version → (Content → Content) → State → State → Type 0
+Steps version = internal_of_schema.Steps (schema_of version)

@@ -10,6 +10,8 @@ use Rattle.store_tables.specs.internal.Content.{put}
 use Rattle.store_tables.specs.Names.{tree_of}
 use Rattle.store_tables.specs.declared.names.Table.TheVariants.{Meta}
 use Rattle.store_tables.specs.Contents.{Content, nothing, Holds}
+use Rattle.store_tables.specs.Tables.{schema_number}
+use Rattle.store_tables.specs.declared.names.Version.{Version}
 
 -- upserts a row into one table
 abbrev pub put_in : ℕ → List ℕ → Row → Content → Content
@@ -20,12 +22,12 @@ abbrev pub put_each : ℕ → List ℕ → List Row → Content → Content
 put_each tree key [] content = content
 put_each tree key (row ∷ rows) content = put_each tree key rows (put_in tree key row content)
 
-abbrev pub opening_meta : Row
-opening_meta = Int (pos 1) ∷ Int (pos 2) ∷ Int (pos 0) ∷ []
+abbrev pub opening_meta : Version → Row
+opening_meta version = Int (pos 1) ∷ Int (pos (schema_number version)) ∷ Int (pos 0) ∷ []
 
--- the tables of a new club: schema 2, and no command accepted
-abbrev pub opening : Content
-opening = put_in (tree_of Meta) (0 ∷ []) opening_meta nothing
+-- the tables of a new club of this version: no command accepted
+abbrev pub opening : Version → Content
+opening version = put_in (tree_of Meta) (0 ∷ []) (opening_meta version) nothing
 
 -- Inside a transaction the rows changed in this way; nothing was committed.
 pub record Steps (schema : Schema) (change : Content → Content) (old new : State) : Type 0 where

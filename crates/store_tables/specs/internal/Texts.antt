@@ -5,7 +5,7 @@ use Rattle.sqlite.specs.Table.{Table}
 use Rattle.sqlite_schema.specs.declared.schema.Column.{Column}
 use Rattle.store_tables.specs.declared.names.Table as of_club
 use Rattle.store_tables.specs.declared.names.Table.TheVariants.{Members, Events, EventRules, Challenges, Moves, Games}
-use Rattle.store_tables.specs.declared.names.Table.TheVariants.{Seen, Scores, Meta}
+use Rattle.store_tables.specs.declared.names.Table.TheVariants.{Seen, Scores, Meta, Keys, Rulings, Closings}
 use Rattle.store_tables.specs.declared.texts.TheConstants as text
 
 abbrev pub create_of : of_club.Table → List ℕ
@@ -18,6 +18,9 @@ create_of Games = text.CREATE_GAMES.now
 create_of Seen = text.CREATE_SEEN.now
 create_of Scores = text.CREATE_SCORES.now
 create_of EventRules = text.CREATE_EVENT_RULES.now
+create_of Keys = text.CREATE_KEYS.now
+create_of Rulings = text.CREATE_RULINGS.now
+create_of Closings = text.CREATE_CLOSINGS.now
 
 -- ---- names
 

@@ -4,8 +4,8 @@ use Rattle.club_lists.specs.ClubJson.{challenges_json}
 use Rattle.club_answers.proofs.challenge_lists.challenge_objects.Goals as goal
 
 pub returns-clause-found : goal.returns-clause-found
-returns-clause-found g c clean s is_club k =
-    let read = c.in_ok-read.ensures.read clean s is_club k in
+returns-clause-found g c clean s is_club version k =
+    let read = c.in_ok-read.ensures.read clean s is_club version k in
     let members = ap members_of c.deref.ensures.value ∙ read.members_are in
     let events = ap events_of c.deref-2.ensures.value ∙ read.events_are in (
       c.in_ok-read.read.challenges.items,

@@ -2,6 +2,7 @@ use Rattle.store_tables.proofs.Proved.{clean_before, rows_after, reads_on, ended
 use Rattle.std.proofs.Common.{◌∷◌, ap, ◌∙◌}
 use Rattle.std.proofs.lemmas.Result.{IfOk-weaker}
 use Rattle.club_core.specs.internal.Answer.{members_of}
+use Rattle.club_rows.proofs.Proved.{stores-rows}
 use Rattle.club_rows.specs.Club.{tables}
 use Rattle.cross_tables.specs.Lines.{header_text}
 use Rattle.club_answers.specs.CrossTable.{lines_from}
@@ -15,13 +16,14 @@ pub returns-clause-table : goal.returns-clause-table
 returns-clause-table g c clean =
     let looked = clean_before c.all_members.ensures.reads clean in
     let standings = c.in_ok-standings.standings in
-    IfOk-weaker c.lines_of.result _ _ (λ lines are s k.
+    IfOk-weaker c.lines_of.result _ _ (λ lines are s is_club version k.
     let members = ap members_of c.deref-2.ensures.value
-    ∙ c.in_ok-members.ensures.values clean s (rows_after c.in_ok-scores.ensures.reads looked (tables s) k) in
+    ∙ c.in_ok-members.ensures.values clean s is_club version
+    (rows_after c.in_ok-scores.ensures.reads looked (tables s) k) in
     let scores = c.deref-3.ensures.value in
     record {
       scores = c.in_ok-scores.scores.items;
-      scores_are = c.in_ok-scores.ensures.scores looked s k;
+      scores_are = c.in_ok-scores.ensures.scores looked s (stores-rows s _ k);
       standings = standings;
       totals = rw c.deref.ensures.value at c.in_ok-standings.ensures.totals;
       ranked = c.in_ok-standings.ensures.ranked;

@@ -6,7 +6,7 @@ use Rattle.club_core.specs.Game.{Game}
 use Rattle.club_core.specs.Legal.{IsLegalGame}
 use Rattle.club_exports.specs.Title.{Title}
 use Rattle.club_exports.specs.internal.Exported.{IsWritten, IsUnderWay}
-use Rattle.store_tables.specs.Over.{HasRows}
+use Rattle.store_tables.specs.internal.Over.{HasRows}
 use Rattle.store_tables.specs.Contents.{Content}
 use Rattle.store_tables.specs.Reading.{Reads}
 use Rattle.club_changes.specs.internal.Steps.{FindsMoveRows}

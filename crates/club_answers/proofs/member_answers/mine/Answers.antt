@@ -3,6 +3,7 @@ use Rattle.std.proofs.Common.{◌≡◌, None, Some, ap, subst, map, refl, sym, 
 use Rattle.club_core.specs.Members.{find_id}
 use Rattle.club_core.specs.State.{has_member_key, place}
 use Rattle.club_core.specs.internal.Answer.{events_of, members_of}
+use Rattle.club_rows.proofs.Proved.{stores-rows}
 use Rattle.club_lists.specs.Listing.{member_name}
 use Rattle.club_lists.specs.Shows.{my_games_json, own_game_ids}
 use Rattle.club_lists.specs.internal.SummaryViews.{running_view, summaries_of}
@@ -13,8 +14,8 @@ use Rattle.club_answers.proofs.MemberChallenges.{all_same, key_found, key_none}
 use Rattle.club_answers.proofs.member_answers.mine.Goals as goal
 
 pub returns-in_default-clause-found : goal.returns-in_default-clause-found
-returns-in_default-clause-found g c clean s is_club k =
-    let read = c.in_ok-club.ensures.read clean s is_club k in
+returns-in_default-clause-found g c clean s is_club version k =
+    let read = c.in_ok-club.ensures.read clean s is_club version k in
     let members = ap members_of c.deref.ensures.value ∙ read.members_are in
     let none : find_id (has_member_key c.args.key.now) s.members ≡ None =
     (λ i. find_id (has_member_key c.args.key.now) (sym members i))
@@ -26,10 +27,10 @@ returns-clause-reads g c =
     reads_on c.in_ok-club.ensures.reads (reads_on c.in_ok-challenges.ensures.reads c.in_ok-running.ensures.reads)
 
 pub returns-clause-found : goal.returns-clause-found
-returns-clause-found g c clean s is_club k =
+returns-clause-found g c clean s is_club version k =
     let (first, one, second, two) = between_three s c.in_ok-club.ensures.reads c.in_ok-challenges.ensures.reads
     c.in_ok-running.ensures.reads clean k in
-    let read = c.in_ok-club.ensures.read first s is_club k in
+    let read = c.in_ok-club.ensures.read first s is_club version k in
     let key = c.args.key.now in
     let id = c.in-Some.id in
     let members = ap members_of c.deref.ensures.value ∙ read.members_are in
@@ -46,14 +47,15 @@ returns-clause-found g c clean s is_club k =
     let shown_members = ap members_of c.deref-6.ensures.value ∙ read.members_are in
     let shown_events = ap events_of c.deref-7.ensures.value ∙ read.events_are in
     let own = c.in_ok-challenges.challenges.items in
-    let (all, are_all, same) = all_same s is_club id m at own (c.in_ok-challenges.ensures.found second s one) in (
+    let (all, are_all, same) = all_same s is_club id m at own (c.in_ok-challenges.ensures.found second s
+    (stores-rows s _ one)) in (
       m.name,
       named,
       all,
       are_all,
       running,
       subst (λ l. AreRunningAt s l running) (c.deref-5.ensures.value ∙ ids)
-          (c.in_ok-running.ensures.running clean s is_club two),
+          (c.in_ok-running.ensures.running clean s is_club (stores-rows s _ two)),
       c.in_ok-text.ensures
           ∙ ((λ i. my_games_json (shown_members i) (shown_events i) (name i) (read.moment_is i) own running)
           ∙ same s.events (effective_moment s c.args.moment) running),

@@ -1,5 +1,7 @@
 use Rattle.store_tables.proofs.Proved.{reads_on}
-use Rattle.club_answers.proofs.CallLemmas.{tells_found}
+use Rattle.std.proofs.Common.{refl}
+use Rattle.club_rows.proofs.Proved.{stores-rows}
+use Rattle.club_answers.proofs.CallLemmas.{tells_stored}
 use Rattle.club_answers.proofs.pages.clock.Goals as goal
 
 pub returns-in_ok-text-in-Some-clause-reads : goal.returns-in_ok-text-in-Some-clause-reads
@@ -7,6 +9,11 @@ returns-in_ok-text-in-Some-clause-reads g c =
     reads_on c.in_ok-found.ensures.reads c.in_ok-text-in-Some.ensures.reads
 
 pub returns-in_ok-text-in-Some-clause-found : goal.returns-in_ok-text-in-Some-clause-found
-returns-in_ok-text-in-Some-clause-found g c clean s is_club k =
-    tells_found s c.args.game c.in_ok-found.ensures.reads c.clock_in.ensures.reads c.in_ok-found.ensures.found
-    c.in-Some.is clean is_club k (c.in_ok-text-in-Some.ensures.clock clean s c.args.game)
+returns-in_ok-text-in-Some-clause-found g c clean s is_club version k =
+    tells_stored s c.args.game c.in_ok-found.ensures.reads c.clock_in.ensures.reads c.in_ok-found.ensures.found
+    c.in-Some.is clean is_club k (λ game at stored kept.
+    c.in_ok-text-in-Some.ensures.clock clean s c.args.game game is_club at stored version kept)
+
+pub returns-in-None-clause-found : goal.returns-in-None-clause-found
+returns-in-None-clause-found g c clean s is_club version k =
+    (rw c.in-None.is at (c.in_ok-found.ensures.found clean s is_club (stores-rows s _ k)), refl)

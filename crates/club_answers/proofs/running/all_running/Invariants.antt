@@ -1,7 +1,7 @@
 use Rattle.std.proofs.Common.{true, drop}
 use Rattle.sqlite.specs.Held.{state}
 use Rattle.sqlite.specs.State.{HasCleanDisk}
-use Rattle.store_tables.specs.Over.{HasRows}
+use Rattle.store_tables.specs.internal.Over.{HasRows}
 use Rattle.store_tables.specs.Reading.{Reads}
 use Rattle.club_rows.specs.Club.{ClubState, IsClub, tables}
 use Rattle.club_answers.proofs.RunningLemmas.{Ahead}

@@ -1,4 +1,4 @@
-use Rattle.std.proofs.Common.{◌≡◌, ◌+◌, pos, true, arith}
+use Rattle.std.proofs.Common.{◌≡◌, ◌+◌, [], pos, true, arith}
 use Rattle.std.specs.Prelude.{string_bytes}
 use Rattle.std.proofs.lemmas.Bool.{not-true}
 use Rattle.std.proofs.lemmas.Int.{ints}
@@ -14,8 +14,8 @@ returns-clause-sound c = λ free.
     let name : is_name (string_bytes row.name) ≡ true = cc in
     let key : is_member_key (string_bytes row.key) ≡ true = cc in
     record {
-      member = record { name = string_bytes row.name; key = string_bytes row.key };
+      member = record { name = string_bytes row.name; key = string_bytes row.key; later = [] };
       cells = member-cells (c.args.place + 1) row id;
-      legal = record { name = name; key = key };
+      legal = record { name = name; key = key; later = λ n k at. cc; later_count = omega arith };
       others = c.is_taken.ensures.free (not-true c.is_taken.result free);
     }

@@ -26,7 +26,7 @@ pub returns-then-reads_input-clause-err : goal.returns-then-reads_input-clause-e
 returns-then-reads_input-clause-err c =
     let line : Line = record { number = c.args.number; text = c.args.line.now } in
     let words = ap (map (λ word. word.now)) c.as_slice.ensures.value ∙ c.in_ok-words.ensures in
-    let why = codes "the record of a line is a file\n" in
+    let why = codes "a line of a batch reads no standard input\n" in
     error_with (λ message. message ≡ line_error c.args.number why) (SaysOfLine c.args.number (IsNoOrder line))
     c.bad_line.result
     (λ message says. (

@@ -1,4 +1,4 @@
-use Rattle.std.proofs.Common.{◌≡◌, ◌+◌, length, string_bytes, sym, ap, ◌∙◌, arith}
+use Rattle.std.proofs.Common.{◌≡◌, ◌+◌, [], length, string_bytes, sym, ap, ◌∙◌, arith}
 use Rattle.std.proofs.lemmas.List.{length-map}
 use Rattle.club_requests.specs.Outcome.{by_officer}
 use Rattle.club_core.specs.Members.{Member, member_step}
@@ -24,7 +24,7 @@ pub returns-clause-step : goal.returns-clause-step
 returns-clause-step c s same =
     let name = string_bytes c.args.command.now.name in
     let key = string_bytes c.args.command.now.key in
-    let m : Member = record { name = name; key = key } in
+    let m : Member = record { name = name; key = key; later = [] } in
     let counted : length (members_of c.args.members.now) ≡ length c.args.members.now = simp length-map in
     let next : length c.args.members.now + 1 ≡ 1 + length s.members = omega (arith, counted, ap length same) in
     let members = one_pushed member_cells c.changes_at-changes.result.members.items c.push.new.self.items

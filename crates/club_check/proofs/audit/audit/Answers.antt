@@ -1,9 +1,13 @@
-use Rattle.std.proofs.Common.{arith, inl, refl, sym, subst, inr}
+use Rattle.std.proofs.Common.{◌≡◌, arith, inl, refl, sym, subst, inr, true≢false, ◌∙◌}
+use Rattle.std.proofs.lemmas.Int.{ints}
+use Rattle.club_core.specs.LegalState.{Each}
+use Rattle.club_audit.specs.internal.ClosingAudit.{IsClosedBy}
+use Rattle.club_check.proofs.ArbiterLemmas.{closings_of_club}
 use Rattle.club_audit.specs.internal.Audit.{AreApartGames}
-use Rattle.club_audit.proofs.Proved.{events-count, members-count}
+use Rattle.club_audit.proofs.Proved.{events-count, members-count, rows-closed-by}
 use Rattle.club_check.proofs.ExaminedLemmas.{people_of}
 use Rattle.store_tables.specs.declared.names.Table.TheVariants.{Challenges, Games}
-use Rattle.club_check.proofs.PlayedLemmas.{register_apart, register_challenges}
+use Rattle.club_check.proofs.StoredClub.{register_apart, register_challenges}
 use Rattle.club_check.proofs.FirstWrong.{damaged_same, some_later}
 use Rattle.club_check.proofs.audit.audit.Goals as goal
 
@@ -47,7 +51,18 @@ returns-in-Ok-false-clause-challenged c s people t is = (
 )
 
 pub returns-in-Ok-false-are_apart-clause-later : goal.returns-in-Ok-false-are_apart-clause-later
-returns-in-Ok-false-are_apart-clause-later c = some_later Games (inl (omega arith, omega arith))
+returns-in-Ok-false-are_apart-clause-later c = some_later Games (inl (omega arith, omega arith, λ is. cc))
 
 pub returns-in-Ok-false-are_apart-clause-apart : goal.returns-in-Ok-false-are_apart-clause-apart
 returns-in-Ok-false-are_apart-clause-apart c after = let low = after Games refl in absurd (omega (arith, low))
+
+pub returns-else-are_closed_by-clause-remembered : goal.returns-else-are_closed_by-clause-remembered
+returns-else-are_closed_by-clause-remembered c = λ t is s club register.
+    let rows = c.args.rows.now in
+    let own = closings_of_club s club rows.closings.items register.closings in
+    let by = rows-closed-by s.last s.events rows.closings.items own club.closings in
+    let last : s.last ≡ c.in-Some.last = omega (arith, ints, c.in-Some.ensures.some, register.last) in
+    let yes = c.are_closed_by.ensures.complete
+    (subst (Each (IsClosedBy c.in-Some.last)) (sym c.deref-in-Some.ensures.value)
+    (subst (λ n. Each (IsClosedBy n) rows.closings.items) last by)) in
+    absurd (true≢false (sym yes ∙ c.if-are_closed_by.false))

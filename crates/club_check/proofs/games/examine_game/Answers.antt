@@ -111,4 +111,4 @@ pub returns-in-Ok-found_of-2-clause-later : goal.returns-in-Ok-found_of-2-clause
 returns-in-Ok-found_of-2-clause-later g c s people =
     either_later c.in-Ok-found_of-2.found.wrong (Some Seen) c.first_of.result c.first_of.ensures.some
     (wrong_later s c.args.rows.now c.args.place c.args.game.now _ _ c.args.last.now c.in-Ok-found_of-2.found.wrong
-    (c.in-Ok-found_of-2.ensures.first s people)) (some_later Seen (inl (omega arith, omega arith)))
+    (c.in-Ok-found_of-2.ensures.first s people)) (some_later Seen (inl (omega arith, omega arith, λ is. cc)))

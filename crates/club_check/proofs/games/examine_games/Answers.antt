@@ -90,8 +90,8 @@ returns-clause-later g c s people known =
     either_later c.first_of-with_moves.result c.left_over-2.result c.first_of.result c.first_of.ensures.some
     (either_later c.loop-place.wrong c.left_over.result c.first_of-with_moves.result
     c.first_of-with_moves.ensures.some (c.loop-place.invariant.later s people known)
-    (left_later Moves c.loop-place.moves c.left_over.result (omega arith, omega arith) c.left_over.ensures.some))
-    (left_later Seen c.loop-place.seen c.left_over-2.result (omega arith, omega arith) c.left_over-2.ensures.some)
+    (left_later Moves c.loop-place.moves c.left_over.result (omega arith, omega arith, λ is. cc) c.left_over.ensures.some))
+    (left_later Seen c.loop-place.seen c.left_over-2.result (omega arith, omega arith, λ is. cc) c.left_over-2.ensures.some)
 
 pub returns-in-Err-clause-later_fault : goal.returns-in-Err-clause-later_fault
 returns-in-Err-clause-later_fault g c clean has is_open one two =

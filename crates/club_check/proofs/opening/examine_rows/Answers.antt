@@ -33,7 +33,7 @@ returns-in-None-wrong-clause-found g c clean has =
     (c.in-Ok-examine_play.ensures.found clean2 has) in
     let free = c.in-Ok-examine_play.ensures.known none in
     let scores = c.in-Ok-examine_scores.ensures.found clean (still play.same has) in
-    let (n, moment, within) = c.in-Ok.ensures.moment free in
+    let (n, moment, within, closed) = c.in-Ok.ensures.moment free in
     let told = moment_told rows.meta.last c.to_moment-last.result
     (IfSome_then c.to_moment-last.result c.to_moment-last.ensures.some (λ m is. omega (arith, ints, is)))
     c.to_moment-last.ensures.range
@@ -42,6 +42,7 @@ returns-in-None-wrong-clause-found g c clean has =
     record {
       moment = n;
       last = (moment, within);
+      closed_by = closed;
       challenges = c.in-Ok.ensures.challenges;
       games = c.in-Ok.ensures.apart (played_after Games (omega arith) _ (none_played _ free));
       play = play_later rows _ s1 s2 s3 (subst (λ l. IsPlayExamined rows l None s1 s2) is_last play) scores.read.same;

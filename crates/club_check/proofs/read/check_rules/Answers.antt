@@ -1,15 +1,17 @@
-use Rattle.std.proofs.Common.{◌≡◌, sym, ◌∙◌}
-use Rattle.std.proofs.lemmas.Bool.{not-true}
+use Rattle.std.proofs.Common.{◌∙◌}
+use Rattle.std.specs.Cmp.{booleans_Decides}
 use Rattle.sqlite.specs.Held.{state}
-use Rattle.club_check.proofs.StoredLemmas.{has_rules, rules_fit}
-use Rattle.club_check.proofs.read.check_rules.Goals.{in-First, in-Current}
+use Rattle.club_check.proofs.StoredLemmas.{rules_found, rules_missing}
 use Rattle.club_check.proofs.read.check_rules.Goals as goal
 
-pub returns-clause-version : goal.returns-clause-version
-returns-clause-version g c clean has =
-    let fits : c.in-Ok.there ≡ has_rules c.args.version = elim c.match-version.branch [
-      | in-First w ↦ rw w.in-First.is (not-true c.in-Ok.there (sym w.fits-is ∙ c.if-not-fits.false))
-      | in-Current w ↦ rw w.in-Current.is (sym w.fits-is ∙ c.if-not-fits.false)
-    ] in
-    rules_fit c.args.version (state g.S.Store c.args.conn.now).now.schema c.in-Ok.there has
-    (c.in-Ok.ensures.stands clean) (c.in-Ok.ensures.missing clean) fits
+pub returns-then-there-wanted-clause-none : goal.returns-then-there-wanted-clause-none
+returns-then-there-wanted-clause-none g c clean =
+    λ off has. rules_missing (state g.S.Store c.args.conn.now).now.schema c.in-Ok.there has
+    (c.in-Ok.ensures.stands clean)
+    ((booleans_Decides c.in-Ok.there c.args.wanted).0 c.if-there-wanted.true ∙ off)
+
+pub returns-then-there-wanted-clause-there : goal.returns-then-there-wanted-clause-there
+returns-then-there-wanted-clause-there g c clean =
+    λ on has. rules_found (state g.S.Store c.args.conn.now).now.schema c.in-Ok.there has
+    (c.in-Ok.ensures.missing clean)
+    ((booleans_Decides c.in-Ok.there c.args.wanted).0 c.if-there-wanted.true ∙ on)

@@ -6,7 +6,7 @@ use Rattle.sqlite.specs.Held.{state}
 use Rattle.club_check.proofs.StoredLemmas.{stands}
 use Rattle.std.specs.Prelude.{OnOk, is_ok}
 use Rattle.store_tables.specs.declared.names.Table.TheVariants.{Meta}
-use Rattle.club_check.proofs.ClubLemmas.{shown_one, read_one}
+use Rattle.club_check.proofs.ClubLemmas.{shown_one, read_one, turned_one}
 use Rattle.store_tables.proofs.Proved.{read_nothing, read_then}
 use Rattle.club_check.proofs.read.read_meta.Goals as goal
 
@@ -18,6 +18,13 @@ returns-clause-none g c clean =
     wrong none
     (shown_one old.now version content _ c.in-Ok.shown.items old new (search rules) refl
     (c.in-Ok.ensures.rows clean (stands Meta tt (version, k.schema))) k one))
+    c.one_meta.ensures.none
+
+pub returns-clause-unshown : goal.returns-clause-unshown
+returns-clause-unshown g c clean =
+    IfOk-weaker c.one_meta.result _ _ (λ o wrong none has one.
+    wrong none
+    (turned_one _ c.in-Ok.shown.items _ (search rules) (c.in-Ok.ensures.rows clean (stands Meta tt has)).once one))
     c.one_meta.ensures.none
 
 pub returns-clause-some : goal.returns-clause-some

@@ -1,4 +1,4 @@
-use Rattle.std.proofs.Common.{inr, rules, refl}
+use Rattle.std.proofs.Common.{inl, inr, rules}
 use Rattle.sqlite.specs.Held.{state}
 use Rattle.club_check.proofs.ClubLemmas.{has_number}
 use Rattle.club_check.proofs.read.read_version.Goals as goal
@@ -11,10 +11,15 @@ returns-in-None-clause-reason_is_right g c clean has =
     (inr (
       found.schema,
       search rules,
-      search rules,
+      inl (search rules),
       has_number found (state g.S.Store c.args.conn.now) (state g.S.Store c.read_meta.new.conn) it.0 it.1,
     ))
 
 pub returns-in-Ok-None-clause-found : goal.returns-in-Ok-None-clause-found
-returns-in-Ok-None-clause-found g c clean has =
-    inr (refl, c.no_meta.ensures, c.in-Ok-None.ensures.none clean c.in-Ok-None.field-0-is)
+returns-in-Ok-None-clause-found g c clean has assumed =
+    inr (
+      assumed,
+      c.no_meta.ensures,
+      c.in-Ok-None.ensures.none clean c.in-Ok-None.field-0-is,
+      c.in-Ok-None.ensures.unshown clean c.in-Ok-None.field-0-is has,
+    )

@@ -1,6 +1,7 @@
 use Rattle.std.proofs.Common.{arith, subst}
 use Rattle.store_tables.specs.Sql.{Has}
-use Rattle.store_tables.specs.declared.names.Version.TheVariants.{Current}
+use Rattle.store.specs.Clubs.{version_with}
+use Rattle.store.proofs.Proved.{with_served}
 use Rattle.sqlite.specs.Held.{state}
 use Rattle.club_orders.proofs.RefusalLemmas.{taken_over}
 use Rattle.club_orders.proofs.SessionLemmas.{led_still}
@@ -12,7 +13,7 @@ returns-in-Err-clause-answer g c clean opens live s is_club has =
     g.met.T.Execute.untaken c.args.task.now s c.args.moment _ _ (c.in-Err.ensures.accepts_sound clean opens live s is_club has)
 
 pub returns-in-Err-clause-history : goal.returns-in-Err-clause-history
-returns-in-Err-clause-history g c clean opens live from versions them sessions current led db left =
+returns-in-Err-clause-history g c clean opens live from versions them sessions served led db left =
     rw (g.met.T.Execute.no_chapter c.args.task.now c.args.moment c.in-Err.unopened.fault)
     (record {
       version = led.version;
@@ -28,8 +29,8 @@ returns-clause-refuses g c clean = taken_over _ c.execute-report.result c.execut
 pub returns-clause-answer : goal.returns-clause-answer
 returns-clause-answer g c clean opens live s is_club has =
     let after = rw c.into_connection.ensures.same at clean in
-    c.execute-report.ensures.answer after has.them s is_club has.version
-    ((c.in-Ok.ensures.taken (omega (arith, c.execute-report.ensures.clean, after)) opens live).stands s has)
+    c.execute-report.ensures.answer after has.them s
+    ((c.in-Ok.ensures.taken (omega (arith, c.execute-report.ensures.clean, after)) opens live).stands s is_club has)
 
 pub returns-clause-older : goal.returns-clause-older
 returns-clause-older g c clean opens live them s first =
@@ -37,19 +38,21 @@ returns-clause-older g c clean opens live them s first =
     absurd ((c.in-Ok.ensures.taken (omega (arith, c.execute-report.ensures.clean, after)) opens live).newer them s first)
 
 pub returns-clause-history : goal.returns-clause-history
-returns-clause-history g c clean opens live from versions them sessions current led db left =
+returns-clause-history g c clean opens live from versions them sessions served led db left =
     let same = c.into_connection.ensures.same in
     let after = rw same at clean in
     let taken = c.in-Ok.ensures.taken (omega (arith, c.execute-report.ensures.clean, after)) opens live in
-    let (is, at) = taken.history from led.version them sessions current led.reached in
+    let (is, at) = taken.history from led.version them sessions served led.reached in
     record {
-      version = Current;
+      version = version_with c.in-Ok.club.has_arbiter;
       among = subst (Has versions) is led.among;
       reached = c.execute-report.ensures.history after from them sessions at db (rw same at left);
     }
 
 pub returns-clause-shape : goal.returns-clause-shape
-returns-clause-shape g c = taken_so _ c.execute-report.result c.in-Ok.ensures.shape
+returns-clause-shape g c =
+    let has = c.in-Ok.club.has_arbiter in
+    taken_so _ c.execute-report.result (version_with has, with_served has, c.in-Ok.ensures.shape)
 
 pub returns-in-Err-clause-next_state : goal.returns-in-Err-clause-next_state
 returns-in-Err-clause-next_state g c clean opens live s is_club has db left =
@@ -61,4 +64,4 @@ returns-clause-next_state g c clean opens live s is_club has db left =
     let same = c.into_connection.ensures.same in
     let after = rw same at clean in
     let taken = c.in-Ok.ensures.taken (omega (arith, c.execute-report.ensures.clean, after)) opens live in
-    c.execute-report.ensures.next_state after has.them s is_club has.version (taken.stands s has) db (rw same at left)
+    c.execute-report.ensures.next_state after has.them s (taken.stands s is_club has) db (rw same at left)

@@ -4,13 +4,16 @@ use Rattle.std.proofs.lemmas.Option.{none-some}
 use Rattle.sqlite_wal.specs.Files.{image_at}
 use Rattle.sqlite_store.specs.FileStore.{state as store_state}
 use Rattle.sqlite.specs.Files.{file_state}
+use Rattle.store_tables.specs.Over.{HasRowsIn}
 use Rattle.club_rows.specs.Club.{tables}
+use Rattle.club_rows.specs.Tables.{version_of}
 use Rattle.store_files.proofs.Proved.{was_clean}
 use Rattle.club_orders.specs.Report.{OnlyUnopened}
 use Rattle.club_orders.specs.Refused.{IsOlder}
 use Rattle.club_orders.proofs.Proved.{still_there}
+use Rattle.club_session.specs.Copied.{HasCopyOf, HasCopyOrNone}
 use Rattle.club_session.proofs.FoundLemmas.{kept_files, refused_files, sound_files}
-use Rattle.club_session.proofs.TaskLemmas.{if_unopened, of_copy, of_copy_opened, passed}
+use Rattle.club_session.proofs.TaskLemmas.{if_unopened, of_copy, of_copy_opened, passed, sound_version}
 use Rattle.club_session.proofs.copying.back_up.Goals as goal
 
 pub returns-in-Sound-clause-kept : goal.returns-in-Sound-clause-kept
@@ -49,19 +52,25 @@ returns-in-Sound-clause-sound g c clean is =
     let opened = c.in-Ok.ensures.opened before in
     sound_files (image_at g.S.Start) (file_state c.in-Ok.conn) (c.in-Ok.ensures.found before)
     opened.0 opened.1
-    (λ schema. c.verify-report.ensures.legal mid opened.0 opened.1 schema c.in-Sound.is)
+    (λ told. c.verify-report.ensures.legal mid opened.0 opened.1 told c.in-Sound.version c.in-Sound.is)
 
 pub returns-in-Sound-clause-copied : goal.returns-in-Sound-clause-copied
-returns-in-Sound-clause-copied g c clean void s are =
+returns-in-Sound-clause-copied g c clean void s are is =
     let after = was_clean _ _ c.close.ensures.clean clean in
     let mid = was_clean _ _ c.copy_into-done.ensures.reads.clean after in
     let before = was_clean _ _ c.verify-report.ensures.clean mid in
     let opened = c.in-Ok.ensures.opened before in
     let here = c.in-Ok.ensures.found before in
     let found = are.finds _ (record { holds = here.holds; reads = here.reads }) in
+    let version = c.in-Sound.version in
     let rows = still_there s (file_state c.in-Ok.conn) (c.holds_exactly.ensures opened.0 opened.1) found
-    (file_state c.verify-report.result.1) (c.verify-report.ensures.same mid c.in-Sound.is) in
-    c.copy_into-done.ensures.copied after void (tables s) rows
+    (file_state c.verify-report.result.1) (c.verify-report.ensures.same mid version c.in-Sound.is) in
+    let same = sound_version c.verify-report.result.0 version (version_of s) c.in-Sound.is
+    (c.verify-report.ensures.passes mid opened.0 opened.1 s are.legal found) in
+    let (serves, shape) = c.verify-report.ensures.schema version c.in-Sound.is in
+    subst (λ v. HasCopyOf v (tables s) c.copy_into-done.result.copy) same
+    (c.copy_into-done.ensures.copied after void serves (tables s)
+    (subst (λ v. HasRowsIn v (tables s) (file_state c.verify-report.result.1)) (sym same) rows) is)
 
 pub returns-in-Sound-clause-after_crash : goal.returns-in-Sound-clause-after_crash
 returns-in-Sound-clause-after_crash g c clean void s are =
@@ -71,9 +80,15 @@ returns-in-Sound-clause-after_crash g c clean void s are =
     let opened = c.in-Ok.ensures.opened before in
     let here = c.in-Ok.ensures.found before in
     let found = are.finds _ (record { holds = here.holds; reads = here.reads }) in
+    let version = c.in-Sound.version in
     let rows = still_there s (file_state c.in-Ok.conn) (c.holds_exactly.ensures opened.0 opened.1) found
-    (file_state c.verify-report.result.1) (c.verify-report.ensures.same mid c.in-Sound.is) in
-    c.copy_into-done.ensures.after_crash after void (tables s) rows
+    (file_state c.verify-report.result.1) (c.verify-report.ensures.same mid version c.in-Sound.is) in
+    let same = sound_version c.verify-report.result.0 version (version_of s) c.in-Sound.is
+    (c.verify-report.ensures.passes mid opened.0 opened.1 s are.legal found) in
+    let (serves, shape) = c.verify-report.ensures.schema version c.in-Sound.is in
+    subst (λ v. HasCopyOrNone v (tables s) c.copy_into-done.result.copy) same
+    (c.copy_into-done.ensures.after_crash after void serves (tables s)
+    (subst (λ v. HasRowsIn v (tables s) (file_state c.verify-report.result.1)) (sym same) rows))
 
 pub returns-in_default : goal.returns-in_default
 returns-in_default g c = record {
@@ -109,7 +124,7 @@ returns-in_default g c = record {
       let before = was_clean _ _ c.verify-report.ensures.clean mid in
       let opened = c.in-Ok.ensures.opened before in
       let here = c.in-Ok.ensures.found before in
-      passed c.verify-report.result.0 c.in_default.not-Sound
+      passed c.verify-report.result.0 (version_of s) c.in_default.not-Sound
       (c.verify-report.ensures.passes mid opened.0 opened.1 s are.legal
       (are.finds _ (record { holds = here.holds; reads = here.reads })));
   sound = λ clean is. absurd (subst (λ r. OnlyUnopened r (λ fault. ⊤)) is

@@ -4,55 +4,60 @@ use Rattle.sqlite_store.specs.FileStore.{state as store_state}
 use Rattle.sqlite.specs.Files.{file_state}
 use Rattle.store.specs.Histories.{HasState}
 use Rattle.store_files.proofs.Proved.{was_clean}
-use Rattle.club_session.proofs.FoundLemmas.{carried_files, club_tables, kept_files, not_upgraded, refused_files}
-use Rattle.club_session.proofs.FoundLemmas.{shaped_as, sound_files}
-use Rattle.club_session.proofs.TaskLemmas.{if_accepted, if_takes_over, if_unopened, if_upgrade, if_verify, verify_under}
+use Rattle.club_session.proofs.FoundLemmas.{carried_files, club_tables, kept_files, names_used, not_upgraded}
+use Rattle.club_session.proofs.FoundLemmas.{refused_files, shaped_as, sound_files, stays_files}
+use Rattle.club_session.proofs.TaskLemmas.{if_accepted, if_init, if_takes_over, if_unopened, if_upgrade, if_verify}
+use Rattle.club_session.proofs.TaskLemmas.{verify_under}
 use Rattle.club_session.proofs.order.execute_order.Goals as goal
 
 pub returns-clause-begun : goal.returns-clause-begun
-returns-clause-begun g c clean is void left may found finds =
+returns-clause-begun g c clean =
     let after = was_clean _ _ c.close.ensures.clean clean in
     let before = was_clean _ _ c.act-report.ensures.clean after in
     let opened = (rw c.in-Ok.is at c.requires.opened) before in
     let here = (rw c.in-Ok.is at c.requires.found) before in
+    if_init c.args.task.now (λ version begun void left may found finds.
     ∥∥₁_map (c.close.ensures.member clean left may found finds.holds)
-    (λ now. c.act-report.ensures.begun after opened.0 opened.1 is
-    (void _ (record { holds = here.holds; reads = here.reads })) found now)
+    (λ now. begun (void _ (record { holds = here.holds; reads = here.reads })) found now))
+    (c.act-report.ensures.begun after opened.0 opened.1)
 
 pub returns-clause-behind : goal.returns-clause-behind
-returns-clause-behind g c clean is them without =
+returns-clause-behind g c clean =
     let after = was_clean _ _ c.close.ensures.clean clean in
     let before = was_clean _ _ c.act-report.ensures.clean after in
     let opened = (rw c.in-Ok.is at c.requires.opened) before in
     let here = (rw c.in-Ok.is at c.requires.found) before in
-    let told = c.act-report.ensures.behind after opened.0 opened.1 is them
-    (without _ (record { holds = here.holds; reads = here.reads })) in (
-      told.0,
+    if_init c.args.task.now (λ version behind them is without.
+    let (told, led) = behind them is (without _ (record { holds = here.holds; reads = here.reads })) in (
+      told,
       λ left may found finds.
-          ∥∥₁_map (c.close.ensures.member clean left may found finds.holds) (λ now. told.1 found now),
-    )
+          ∥∥₁_map (c.close.ensures.member clean left may found finds.holds) (λ now. led found now),
+    ))
+    (c.act-report.ensures.behind after opened.0 opened.1)
 
 pub returns-clause-empty : goal.returns-clause-empty
-returns-clause-empty g c clean is void =
+returns-clause-empty g c clean =
     let after = was_clean _ _ c.close.ensures.clean clean in
     let before = was_clean _ _ c.act-report.ensures.clean after in
     let opened = (rw c.in-Ok.is at c.requires.opened) before in
     let here = (rw c.in-Ok.is at c.requires.found) before in
-    c.act-report.ensures.empty after opened.0 opened.1 is
-    (void _ (record { holds = here.holds; reads = here.reads }))
+    if_init c.args.task.now (λ version empty void. empty (void _ (record { holds = here.holds; reads = here.reads })))
+    (c.act-report.ensures.empty after opened.0 opened.1)
 
 pub returns-clause-existing : goal.returns-clause-existing
-returns-clause-existing g c clean is have =
+returns-clause-existing g c clean =
     let after = was_clean _ _ c.close.ensures.clean clean in
     let before = was_clean _ _ c.act-report.ensures.clean after in
     let opened = (rw c.in-Ok.is at c.requires.opened) before in
     let here = (rw c.in-Ok.is at c.requires.found) before in
-    let (told, kept) = c.act-report.ensures.existing after opened.0 is
+    if_init c.args.task.now (λ version existing have.
+    let (told, kept) = existing
     (club_tables (image_at g.S.Start) (file_state c.in-Ok.conn) here opened.0 opened.1 have) in (
       told,
       kept_files (image_at g.S.Start) (file_state c.in-Ok.conn) here (file_state c.act-report.result.1)
           (store_state c.close.result).may_leave (c.close.ensures.member clean) kept,
-    )
+    ))
+    (c.act-report.ensures.existing after opened.0)
 
 pub returns-clause-answer : goal.returns-clause-answer
 returns-clause-answer g c clean s are =
@@ -82,14 +87,14 @@ returns-clause-given g c clean s are =
     (are.finds _ (record { holds = here.holds; reads = here.reads }))
 
 pub returns-clause-history : goal.returns-clause-history
-returns-clause-history g c clean from versions them sessions current led left may found finds =
+returns-clause-history g c clean from versions them sessions leads led left may found finds =
     let after = was_clean _ _ c.close.ensures.clean clean in
     let before = was_clean _ _ c.act-report.ensures.clean after in
     let opened = (rw c.in-Ok.is at c.requires.opened) before in
     let here = (rw c.in-Ok.is at c.requires.found) before in
     ∥∥₁_elim (led _ (record { holds = here.holds; reads = here.reads })) squash₁ (λ was.
     ∥∥₁_map (c.close.ensures.member clean left may found finds.holds)
-    (λ now. c.act-report.ensures.history after opened.0 opened.1 from versions them sessions current was found now))
+    (λ now. c.act-report.ensures.history after opened.0 opened.1 from versions them sessions leads was found now))
 
 pub returns-clause-next_state : goal.returns-clause-next_state
 returns-clause-next_state g c clean them s are left may found finds =
@@ -129,10 +134,10 @@ returns-clause-sound g c clean =
     let after = was_clean _ _ c.close.ensures.clean clean in
     let before = was_clean _ _ c.act-report.ensures.clean after in
     let opened = (rw c.in-Ok.is at c.requires.opened) before in
-    if_verify c.args.task.now (λ legal is.
-    sound_files (image_at g.S.Start) (file_state c.in-Ok.conn) ((rw c.in-Ok.is at c.requires.found) before)
-    opened.0 opened.1 (λ schema. legal schema is))
-    (verify_under _ _ c.args.task.now (λ schema. c.act-report.ensures.legal after opened.0 opened.1 schema))
+    let here = (rw c.in-Ok.is at c.requires.found) before in
+    if_verify c.args.task.now (λ legal version is.
+    sound_files (image_at g.S.Start) (file_state c.in-Ok.conn) here opened.0 opened.1 (λ told. legal told version is))
+    (verify_under _ _ c.args.task.now (λ told. c.act-report.ensures.legal after opened.0 opened.1 told))
 
 pub returns-clause-shape : goal.returns-clause-shape
 returns-clause-shape g c clean =
@@ -158,13 +163,15 @@ returns-clause-refuses g c clean =
     (c.act-report.ensures.refuses after)
 
 pub returns-clause-spares : goal.returns-clause-spares
-returns-clause-spares g c clean is foreign =
+returns-clause-spares g c clean =
     let after = was_clean _ _ c.close.ensures.clean clean in
     let before = was_clean _ _ c.act-report.ensures.clean after in
     let opened = (rw c.in-Ok.is at c.requires.opened) before in
-    kept_files (image_at g.S.Start) (file_state c.in-Ok.conn) ((rw c.in-Ok.is at c.requires.found) before)
-    (file_state c.act-report.result.1) (store_state c.close.result).may_leave (c.close.ensures.member clean)
-    (c.act-report.ensures.spares after opened.0 is foreign)
+    let here = (rw c.in-Ok.is at c.requires.found) before in
+    if_init c.args.task.now (λ version spares foreign.
+    kept_files (image_at g.S.Start) (file_state c.in-Ok.conn) here (file_state c.act-report.result.1)
+    (store_state c.close.result).may_leave (c.close.ensures.member clean) (spares foreign))
+    (c.act-report.ensures.spares after opened.0)
 
 pub returns-clause-older : goal.returns-clause-older
 returns-clause-older g c clean them s are =
@@ -176,16 +183,15 @@ returns-clause-older g c clean them s are =
     (are.finds _ (record { holds = here.holds; reads = here.reads }))
 
 pub returns-clause-carries : goal.returns-clause-carries
-returns-clause-carries g c clean them s are =
+returns-clause-carries g c clean from them s are =
     let after = was_clean _ _ c.close.ensures.clean clean in
     let before = was_clean _ _ c.act-report.ensures.clean after in
     let opened = (rw c.in-Ok.is at c.requires.opened) before in
     let here = (rw c.in-Ok.is at c.requires.found) before in
-    if_upgrade c.args.task.now (λ carried.
+    if_upgrade c.args.task.now (λ to carried is.
     carried_files (image_at g.S.Start) (file_state c.in-Ok.conn) here (file_state c.act-report.result.1)
-    (store_state c.close.result).may_leave (c.close.ensures.member clean) them s c.act-report.result.0
-    carried)
-    (c.act-report.ensures.carries after opened.0 opened.1 them s
+    (store_state c.close.result).may_leave (c.close.ensures.member clean) from them s c.act-report.result.0 (carried is))
+    (c.act-report.ensures.carries after opened.0 opened.1 from them s
     (are.finds _ (record { holds = here.holds; reads = here.reads })))
 
 pub returns-clause-repeats : goal.returns-clause-repeats
@@ -194,7 +200,8 @@ returns-clause-repeats g c clean s are =
     let before = was_clean _ _ c.act-report.ensures.clean after in
     let opened = (rw c.in-Ok.is at c.requires.opened) before in
     let here = (rw c.in-Ok.is at c.requires.found) before in
-    if_upgrade c.args.task.now (λ (told, kept). (
+    if_upgrade c.args.task.now (λ to repeated later.
+    let (told, kept) = repeated later in (
       told,
       kept_files (image_at g.S.Start) (file_state c.in-Ok.conn) here (file_state c.act-report.result.1)
           (store_state c.close.result).may_leave (c.close.ensures.member clean) kept,
@@ -208,9 +215,28 @@ returns-clause-withheld g c clean =
     let before = was_clean _ _ c.act-report.ensures.clean after in
     let opened = (rw c.in-Ok.is at c.requires.opened) before in
     let here = (rw c.in-Ok.is at c.requires.found) before in
-    if_upgrade c.args.task.now (λ refused.
+    if_upgrade c.args.task.now (λ to refused.
     if_unopened _ _ c.act-report.result.0 (λ fault refusal.
     not_upgraded (image_at g.S.Start) (file_state c.in-Ok.conn) here (file_state c.act-report.result.1)
-    (store_state c.close.result).may_leave (c.close.ensures.member clean) opened.0
-    opened.1 fault refusal) refused)
+    (store_state c.close.result).may_leave (c.close.ensures.member clean) to opened.0 opened.1 fault refusal) refused)
     (c.act-report.ensures.withheld after)
+
+pub returns-clause-beside : goal.returns-clause-beside
+returns-clause-beside g c clean =
+    let after = was_clean _ _ c.close.ensures.clean clean in
+    let before = was_clean _ _ c.act-report.ensures.clean after in
+    let opened = (rw c.in-Ok.is at c.requires.opened) before in
+    let here = (rw c.in-Ok.is at c.requires.found) before in
+    if_upgrade c.args.task.now (λ to beside used.
+    beside (names_used (image_at g.S.Start) (file_state c.in-Ok.conn) here to opened.0 opened.1 used))
+    c.act-report.ensures.beside
+
+pub returns-clause-stays : goal.returns-clause-stays
+returns-clause-stays g c clean =
+    let after = was_clean _ _ c.close.ensures.clean clean in
+    let before = was_clean _ _ c.act-report.ensures.clean after in
+    let opened = (rw c.in-Ok.is at c.requires.opened) before in
+    let here = (rw c.in-Ok.is at c.requires.found) before in
+    stays_files (image_at g.S.Start) (file_state c.in-Ok.conn) here (file_state c.act-report.result.1)
+    (store_state c.close.result).may_leave (c.close.ensures.member clean) c.args.task.now
+    (c.act-report.ensures.stays after opened.0 opened.1)

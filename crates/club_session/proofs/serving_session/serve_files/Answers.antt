@@ -1,23 +1,23 @@
-use Rattle.std.proofs.Common.{◌≡◌, None, inl, refl}
-use Rattle.store_tables.specs.declared.names.Version.TheVariants.{Current}
+use Rattle.std.proofs.Common.{◌≡◌, None, refl}
 use Rattle.std.proofs.Math.Logic.{∥∥₁_elim, ∥∥₁_map}
 use Rattle.sqlite_wal.specs.Files.{image_at}
 use Rattle.sqlite_store.specs.FileStore.{state as store_state}
 use Rattle.sqlite.specs.Files.{file_state}
 use Rattle.store_tables.proofs.Proved.{leaves_in_version}
+use Rattle.club_rows.specs.FirstSchema.{tables_at}
 use Rattle.store_files.proofs.Proved.{was_clean}
 use Rattle.club_session.proofs.FoundLemmas.{shaped_files, taken_files, told_files}
 use Rattle.club_session.proofs.TaskLemmas.{if_taken}
 use Rattle.club_session.proofs.serving_session.serve_files.Goals as goal
 
 pub returns-clause-history : goal.returns-clause-history
-returns-clause-history g c clean from versions them sessions current led left may found finds =
+returns-clause-history g c clean from versions them sessions serves led left may found finds =
     let after = was_clean _ _ c.close.ensures.clean clean in
     let before = c.serve_club-fault.ensures.clean after in
     let opened = c.in-Ok.ensures.opened before in
     let here = c.in-Ok.ensures.found before in
     ∥∥₁_elim (led _ (record { holds = here.holds; reads = here.reads })) squash₁ (λ was.
-    let on = c.serve_club-fault.ensures.history after opened.0 opened.1 from was.version them sessions current
+    let on = c.serve_club-fault.ensures.history after opened.0 opened.1 from was.version them sessions serves
     was.reached in
     ∥∥₁_map (c.close.ensures.member clean left may found finds.holds)
     (λ now. record {
@@ -27,7 +27,7 @@ returns-clause-history g c clean from versions them sessions current led left ma
     }))
 
 pub returns-clause-whole : goal.returns-clause-whole
-returns-clause-whole g c clean none from versions them sessions current led left may found finds =
+returns-clause-whole g c clean none from versions them sessions serves led left may found finds =
     let after = was_clean _ _ c.close.ensures.clean clean in
     let before = c.serve_club-fault.ensures.clean after in
     let opened = c.in-Ok.ensures.opened before in
@@ -35,24 +35,26 @@ returns-clause-whole g c clean none from versions them sessions current led left
     let nothing : c.serve_club-fault.result.0 ≡ None = cc in
     ∥∥₁_elim (led _ (record { holds = here.holds; reads = here.reads })) squash₁ (λ was.
     let (is, on) =
-    c.serve_club-fault.ensures.stands after opened.0 opened.1 nothing from was.version them sessions current
+    c.serve_club-fault.ensures.stands after opened.0 opened.1 nothing from was.version them sessions serves
     was.reached in
     ∥∥₁_map (c.close.ensures.member clean left may found finds.holds) (λ now. (
       record {
         turns = on.turns;
         are_turns = on.are_turns;
         led = record {
-          version = Current;
-          among = inl refl;
+          version = was.version;
+          among = was.among;
           reached = record {
             after = on.stands.after;
             legal = on.stands.legal;
             leads = on.stands.leads;
-            leaves = leaves_in_version Current them _ _ on.stands.exactly found now;
+            leaves = leaves_in_version was.version them (tables_at was.version on.stands.after) _ on.stands.exactly found
+                now;
           };
         };
       },
       on.whole,
+      is,
     )))
 
 pub returns-clause-told : goal.returns-clause-told

@@ -3,7 +3,7 @@ use Rattle.std.specs.List.Sorted.{IsSorted}
 use Rattle.sqlite.specs.Held.{state}
 use Rattle.store_tables.specs.Contents.{Content}
 use Rattle.store_tables.specs.internal.Contents.{AreThose}
-use Rattle.store_tables.specs.Over.{HasRows}
+use Rattle.store_tables.specs.Over.{HasRowsIn}
 use Rattle.store_tables.specs.internal.Reading.{by_columns}
 use Rattle.store_tables.proofs.Proved.{read_nothing, read_then}
 use Rattle.store_sql.proofs.SelectLemmas.{carried}
@@ -15,7 +15,7 @@ returns-in-Ok-clause-reads g c = read_then _ _ _ _ c.in-Ok.ensures.reads (read_n
 pub returns-in-Ok-clause-rows : goal.returns-in-Ok-clause-rows
 returns-in-Ok-clause-rows g c clean =
     carried c.parse_shown_rows.result (λ found. map g.Q.Row.TableRow.cells found.items) c.in-Ok.shown.items
-    (λ l. (content : Content) → HasRows content (state g.S.Store c.args.conn.now)
+    (λ l. (content : Content) → HasRowsIn g.Q.Row.Select.since content (state g.S.Store c.args.conn.now)
     → AreThose (g.Q.ColumnValue.column ∷ []) (g.Q.ColumnValue.wanted c.args.question.now)
     (content g.Q.Row.Select.table.tree) l
     × IsSorted (by_columns g.Q.Row.Select.width) l) (search rules) (c.in-Ok.ensures.rows clean)

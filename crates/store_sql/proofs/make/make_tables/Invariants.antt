@@ -9,4 +9,4 @@ invariant-tables g l =
     let old = state g.S.Store l.fn.tx.conn.now in
     let now = state g.S.Store l.tx.conn.now in
     (l.tx.conn.ghost_name ≡ l.fn.tx.conn.ghost_name) × Survives old now (λ _. ⊥)
-    × (HasCleanDisk now → IsTrue old.in_transaction → Progress l.table-index old now)
+    × (HasCleanDisk now → IsTrue old.in_transaction → Progress l.tables l.table-index old now)

@@ -30,6 +30,6 @@ returns-clause-known g c clean =
 pub returns-clause-rows : goal.returns-clause-rows
 returns-clause-rows g c clean =
     IfOk-weaker c.query_all.result _ _ (λ rows shown content k.
-    some_found g.met.T.Select.is_table g.met.T.Select.read _ _ content k
+    some_found g.met.T.Select.is_table g.met.T.Select.read _ _ g.met.T.Select.is_there content k
     (c.by_first.ensures ∙ ap by_first_text c.table.ensures) c.args.first.now _ (search rules)
     c.query_all.ensures.survives clean rows.items shown) (c.query_all.ensures.ok clean)

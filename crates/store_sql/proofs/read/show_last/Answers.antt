@@ -15,7 +15,7 @@ returns-in-Ok-clause-reads g c =
 
 pub returns-in-Ok-clause-last : goal.returns-in-Ok-clause-last
 returns-in-Ok-clause-last g c clean content k =
-    last_found g.met.T.Select.is_table g.met.T.Select.read _ _ content k (c.last.ensures ∙ ap last_text c.table.ensures)
+    last_found g.met.T.Select.is_table g.met.T.Select.read _ _ g.met.T.Select.is_there content k (c.last.ensures ∙ ap last_text c.table.ensures)
     c.in-Ok.ensures.survives clean c.in-Ok.row (c.in-Ok.ensures.row clean)
 
 pub returns-then-has_no_row-clause-reads : goal.returns-then-has_no_row-clause-reads
@@ -31,7 +31,7 @@ pub returns-then-has_no_row-clause-last : goal.returns-then-has_no_row-clause-la
 returns-then-has_no_row-clause-last g c clean content k =
     let none : c.in-Err.error ≡ QueryReturnedNoRows = search rules in
     let alone = standing_alone g.T.Select.which in
-    none_found g.met.T.Select.is_table g.met.T.Select.read _ _ content k (c.last.ensures ∙ ap last_text c.table.ensures)
+    none_found g.met.T.Select.is_table g.met.T.Select.read _ _ g.met.T.Select.is_there content k (c.last.ensures ∙ ap last_text c.table.ensures)
     c.in-Err.ensures.survives clean
     (none_shown (g.met.T.Select.read _ alone).last_is _
     (c.last.ensures

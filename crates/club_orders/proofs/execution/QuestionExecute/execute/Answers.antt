@@ -1,25 +1,28 @@
 use Rattle.std.proofs.lemmas.Result.{IfOk-weaker, IfErr-weaker}
-use Rattle.store_tables.specs.declared.names.Version.TheVariants.{Current}
-use Rattle.store_tables.proofs.Proved.{leaves_beside, rows_beside}
+use Rattle.store_tables.proofs.Proved.{leaves_beside}
 use Rattle.club_rows.specs.Club.{tables}
+use Rattle.store.specs.Clubs.{version_with}
+use Rattle.store.proofs.Proved.{asks_served}
 use Rattle.club_orders.proofs.QuestionLemmas.{shows}
 use Rattle.club_orders.proofs.SessionLemmas.{led_still, left_led}
 use Rattle.club_orders.proofs.execution.QuestionExecute.execute.Goals as goal
 
 pub returns-clause-answer : goal.returns-clause-answer
-returns-clause-answer g c clean them s is_club current here =
-    let rows = rows_beside them (tables s) _ current here in
+returns-clause-answer g c clean them s k =
+    let asks = asks_served k in
     let answer = c.ask.result in
     rw c.report_of_question.ensures.report
     (shows s c.args.moment c.args.self.now _ _ answer
-    (IfOk-weaker answer _ _ (λ refusal told. told s is_club rows) (c.ask.ensures.shown clean))
-    (c.ask.ensures.begun clean s is_club rows)
+    (IfOk-weaker answer _ _ (λ refusal told. told s asks) (c.ask.ensures.shown clean))
+    (c.ask.ensures.begun clean s asks)
     (IfErr-weaker answer _ _ (λ fault told. told c.requires) c.ask.ensures.possible_faults))
 
 pub returns-clause-history : goal.returns-clause-history
 returns-clause-history g c clean from them sessions at db left =
-    led_still from Current them sessions db (left_led from them sessions _ at db (c.ask.ensures.reads.may clean db left))
+    let version = version_with c.args.club.now.has_arbiter in
+    led_still from version them sessions db
+    (left_led from version them sessions _ at db (c.ask.ensures.reads.may clean db left))
 
 pub returns-clause-next_state : goal.returns-clause-next_state
-returns-clause-next_state g c clean them s is_club current here db left =
-    leaves_beside them (tables s) _ here db (c.ask.ensures.reads.may clean db left)
+returns-clause-next_state g c clean them s k db left =
+    leaves_beside them (tables s) _ k.holds db (c.ask.ensures.reads.may clean db left)

@@ -1,23 +1,25 @@
 use Rattle.std.proofs.Common.{ap, Err, refl}
 use Rattle.sqlite.specs.Held.{state}
-use Rattle.store_tables.proofs.Proved.{rows_beside}
 use Rattle.club_session.proofs.AskLemmas.{asking_left, asking_shown}
-use Rattle.club_session.proofs.ServeLemmas.{read_stands}
+use Rattle.club_session.proofs.ServeLemmas.{asked, read_stands}
 use Rattle.club_session.proofs.desk_club.DeskClubClubService.ask.Goals as goal
 
 pub returns-in-Ok-clause-serves : goal.returns-in-Ok-clause-serves
-returns-in-Ok-clause-serves g c clean s served = (
+returns-in-Ok-clause-serves g c clean s open_in = (
   asking_shown s.state c.args.moment c.args.question.now c.in-Ok.refusal c.new-bytes.result.items c.ask.new.writer.items
       c.text_or_refusal.result c.new-bytes.ensures.items c.text_or_refusal.ensures
-      (c.in-Ok.ensures.shown clean s.state served.legal (rows_beside _ _ _ served.version served.exactly)),
-  read_stands c.args.self.now.club.needs_reopening c.ask.new.self.needs_reopening
+      (c.in-Ok.ensures.shown clean s.state (asked open_in)),
+  read_stands c.args.self.now.club.has_arbiter c.ask.new.self.has_arbiter
+      c.args.self.now.club.needs_reopening c.ask.new.self.needs_reopening
       (state g.S.Store c.args.self.now.club.connection) (state g.S.Store c.ask.new.self.connection) s
-      c.in-Ok.ensures.stays_open (c.in-Ok.ensures.reads.kept refl clean) served,
+      c.in-Ok.ensures.same_schema c.in-Ok.ensures.stays_open (c.in-Ok.ensures.reads.kept refl clean) open_in,
 )
 
 pub returns-in-Err-clause-serves : goal.returns-in-Err-clause-serves
-returns-in-Err-clause-serves g c clean s served =
-    asking_left c.args.self.now.club.needs_reopening c.ask.new.self.needs_reopening
+returns-in-Err-clause-serves g c clean s open_in =
+    asking_left c.args.self.now.club.has_arbiter c.ask.new.self.has_arbiter
+    c.args.self.now.club.needs_reopening c.ask.new.self.needs_reopening
     (state g.S.Store c.args.self.now.club.connection) (state g.S.Store c.ask.new.self.connection) s c.in-Err.fault
-    c.fault_of_question.result c.fault_of_question.ensures (λ is. c.in-Err.ensures.output (ap Err is)) c.in-Err.ensures.ends
-    (c.in-Err.ensures.possible_faults served.ready) c.in-Err.ensures.reads clean served
+    c.fault_of_question.result c.fault_of_question.ensures c.in-Err.ensures.same_schema
+    (λ is. c.in-Err.ensures.output (ap Err is)) c.in-Err.ensures.ends
+    (c.in-Err.ensures.possible_faults open_in.ready) c.in-Err.ensures.reads clean open_in

@@ -7,18 +7,19 @@ use Rattle.club_core.specs.State.{with_challenge}
 use Rattle.club_rows.specs.Club.{tables}
 use Rattle.club_changes.specs.internal.Steps.{IsDecided}
 use Rattle.club_changes.proofs.Proved.{member_mapped, member_same}
+use Rattle.club_rows.proofs.Proved.{stores-rows}
 use Rattle.store_tables.proofs.Proved.{clean_before, reads_on, rows_after}
 use Rattle.store.proofs.challenges.OpenChallengeDecide.decide.Goals as goal
 
 pub returns-clause-step : goal.returns-clause-step
-returns-clause-step g c clean s is_club later k =
+returns-clause-step g c clean s is_club version taken later k =
     let at_members = clean_before c.all_events.ensures.reads clean in
     let at_under = clean_before c.all_members.ensures.reads at_members in
     let one = rows_after c.in_ok-under.ensures.reads at_under (tables s) k in
     let two = rows_after c.in_ok-members.ensures.reads at_members (tables s) one in
-    let ms = ap members_of c.deref.ensures.value ∙ c.in_ok-members.ensures.values at_members s one in
-    let es = ap events_of c.deref-2.ensures.value ∙ c.in_ok-events.ensures.values clean s is_club two in
-    let under = c.in_ok-under.ensures.found at_under s is_club k in
+    let ms = ap members_of c.deref.ensures.value ∙ c.in_ok-members.ensures.values at_members s is_club version one in
+    let es = ap events_of c.deref-2.ensures.value ∙ c.in_ok-events.ensures.values clean s is_club version two in
+    let under = c.in_ok-under.ensures.found at_under s is_club (stores-rows s _ k) in
     let command = c.args.self.now in
     let event = string_bytes command.event in
     let other = string_bytes command.other in

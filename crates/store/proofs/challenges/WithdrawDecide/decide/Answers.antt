@@ -5,11 +5,12 @@ use Rattle.club_requests.specs.Outcome.{Outcome, map_outcome}
 use Rattle.club_core.specs.State.{with_challenge}
 use Rattle.club_changes.specs.internal.Steps.{IsDecided}
 use Rattle.club_changes.proofs.Proved.{member_mapped, member_same}
+use Rattle.club_rows.proofs.Proved.{stores-rows}
 use Rattle.store.proofs.challenges.WithdrawDecide.decide.Goals as goal
 
 pub returns-clause-step : goal.returns-clause-step
-returns-clause-step g c clean s is_club later k =
-    let under = c.in_ok-under.ensures.found clean s is_club k in
+returns-clause-step g c clean s is_club version taken later k =
+    let under = c.in_ok-under.ensures.found clean s is_club (stores-rows s _ k) in
     let number = c.args.self.now.number in
     let f = with_challenge s c.args.moment in
     let wanted : ℕ → Outcome Challenge = λ m. withdrawal_step (challenge_under s.challenges m number) in

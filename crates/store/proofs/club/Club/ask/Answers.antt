@@ -1,9 +1,7 @@
-use Rattle.std.proofs.Common.{true, rules, subst, sym}
+use Rattle.std.proofs.Common.{true, rules, subst, sym, ap, ◌∙◌}
 use Rattle.sqlite.specs.Held.{state}
-use Rattle.store_tables.specs.Over.{HasRows}
 use Rattle.store_tables.specs.Reading.{Reads}
-use Rattle.club_rows.specs.Club.{tables}
-use Rattle.store.specs.Clubs.{Kept}
+use Rattle.store.specs.Clubs.{Asks, Kept, version_with}
 use Rattle.store.proofs.club.Club.ask.Goals as goal
 
 pub returns-in-Err-Output-clause-reads : goal.returns-in-Err-Output-clause-reads
@@ -13,21 +11,21 @@ returns-in-Err-Output-clause-reads g c =
     search rules
 
 pub returns-in-Ok-clause-shown : goal.returns-in-Ok-clause-shown
-returns-in-Ok-clause-shown g c clean s is_club k =
-    c.in-Ok.ensures.shown clean s is_club
-    (subst (λ (v : Kept _). HasRows (tables s) (state g.S.Store v.connection)) (sym c.self.view_is) k)
+returns-in-Ok-clause-shown g c clean s k =
+    let inside = subst (λ (v : Kept _). Asks v.has_arbiter (state g.S.Store v.connection) s) (sym c.self.view_is) k in
+    c.in-Ok.ensures.shown clean s k.legal (c.version_of.ensures ∙ ap version_with inside.arbiter) inside.stores
 
 pub returns-in-Ok-clause-begun : goal.returns-in-Ok-clause-begun
-returns-in-Ok-clause-begun g c clean s is_club k =
-    c.in-Ok.ensures.begun clean s is_club
-    (subst (λ (v : Kept _). HasRows (tables s) (state g.S.Store v.connection)) (sym c.self.view_is) k)
+returns-in-Ok-clause-begun g c clean s k =
+    let inside = subst (λ (v : Kept _). Asks v.has_arbiter (state g.S.Store v.connection) s) (sym c.self.view_is) k in
+    c.in-Ok.ensures.begun clean s k.legal (c.version_of.ensures ∙ ap version_with inside.arbiter) inside.stores
 
 pub returns-in-Err-Output-clause-begun : goal.returns-in-Err-Output-clause-begun
-returns-in-Err-Output-clause-begun g c clean s is_club k =
-    c.in-Err-Output.ensures.begun clean s is_club
-    (subst (λ (v : Kept _). HasRows (tables s) (state g.S.Store v.connection)) (sym c.self.view_is) k)
+returns-in-Err-Output-clause-begun g c clean s k =
+    let inside = subst (λ (v : Kept _). Asks v.has_arbiter (state g.S.Store v.connection) s) (sym c.self.view_is) k in
+    c.in-Err-Output.ensures.begun clean s k.legal (c.version_of.ensures ∙ ap version_with inside.arbiter) inside.stores
 
 pub returns-in-Err-Call-clause-begun : goal.returns-in-Err-Call-clause-begun
-returns-in-Err-Call-clause-begun g c clean s is_club k =
-    c.in-Err-Call.ensures.begun clean s is_club
-    (subst (λ (v : Kept _). HasRows (tables s) (state g.S.Store v.connection)) (sym c.self.view_is) k)
+returns-in-Err-Call-clause-begun g c clean s k =
+    let inside = subst (λ (v : Kept _). Asks v.has_arbiter (state g.S.Store v.connection) s) (sym c.self.view_is) k in
+    c.in-Err-Call.ensures.begun clean s k.legal (c.version_of.ensures ∙ ap version_with inside.arbiter) inside.stores

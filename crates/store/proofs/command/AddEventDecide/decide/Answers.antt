@@ -3,6 +3,6 @@ use Rattle.club_core.specs.internal.Answer.{events_of}
 use Rattle.store.proofs.command.AddEventDecide.decide.Goals as goal
 
 pub returns-clause-step : goal.returns-clause-step
-returns-clause-step g c clean s is_club later k =
+returns-clause-step g c clean s is_club version taken later k =
     c.in_ok-on_event.ensures.step s is_club
-    (ap events_of c.deref.ensures.value ∙ c.in_ok-events.ensures.values clean s is_club k)
+    (ap events_of c.deref.ensures.value ∙ c.in_ok-events.ensures.values clean s is_club version k)

@@ -1,7 +1,7 @@
 use Rattle.std.proofs.Common.{◌∙◌, ap}
 use Rattle.std.proofs.lemmas.Result.{IfOk-weaker}
 use Rattle.club_requests.specs.declared.answers.Outcome.TheVariants as given_is
-use Rattle.club_rows.proofs.Proved.{in_draughts, in_shogi}
+use Rattle.club_rows.proofs.Proved.{in_draughts, in_shogi, stores-rows}
 use Rattle.club_rows.specs.Club.{tables}
 use Rattle.club_changes.proofs.Proved.{stored_decided, unknown_decided}
 use Rattle.store_tables.proofs.Proved.{clean_before, reads_on, rows_after}
@@ -10,7 +10,8 @@ use Rattle.store.proofs.game.OnGameDecide.decide.Goals as goal
 pub returns-in-Some-clause-step : goal.returns-in-Some-clause-step
 returns-in-Some-clause-step g c clean =
     let looked = clean_before c.by_kind-act.ensures.reads clean in
-    IfOk-weaker c.by_kind-act.result _ _ (λ d step s is_club later k.
+    IfOk-weaker c.by_kind-act.result _ _ (λ d step s is_club version taken later stored.
+    let k = stores-rows s _ stored in
     let (game, at, is) = rw c.in-Some.is at c.in_ok-stored.ensures.found looked s is_club k in
     let still = rows_after c.in_ok-stored.ensures.reads looked (tables s) k in
     stored_decided in_draughts s is_club _ game c.in-Some.stored c.args.moment c.args.caller _ d later at is
@@ -20,7 +21,8 @@ returns-in-Some-clause-step g c clean =
 pub returns-in-Some-2-clause-step : goal.returns-in-Some-2-clause-step
 returns-in-Some-2-clause-step g c clean =
     let looked = clean_before c.by_kind-act-in-Some.ensures.reads clean in
-    IfOk-weaker c.by_kind-act-in-Some.result _ _ (λ d step s is_club later k.
+    IfOk-weaker c.by_kind-act-in-Some.result _ _ (λ d step s is_club version taken later stored.
+    let k = stores-rows s _ stored in
     let (game, at, is) = rw c.in-Some.is at c.in_ok-stored.ensures.found looked s is_club k in
     let still = rows_after c.in_ok-stored.ensures.reads looked (tables s) k in
     stored_decided in_shogi s is_club _ game c.in-Some.stored c.args.moment c.args.caller _ d later at is
@@ -28,7 +30,8 @@ returns-in-Some-2-clause-step g c clean =
     (c.by_kind-act-in-Some.ensures.step clean)
 
 pub returns-clause-step : goal.returns-clause-step
-returns-clause-step g c clean s is_club later k =
+returns-clause-step g c clean s is_club version taken later stored =
+    let k = stores-rows s _ stored in
     unknown_decided s _ c.args.moment c.args.caller _ c.without_changes.result
     (rw c.in-None.is at c.in_ok-stored.ensures.found clean s is_club k)
     (c.without_changes.ensures.outcome ∙ ap given_is.Refused c.refusal_without_game-refusal.ensures) c.without_changes.ensures.none

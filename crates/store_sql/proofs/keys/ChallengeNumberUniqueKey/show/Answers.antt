@@ -1,4 +1,5 @@
-use Rattle.std.proofs.Common.{rules}
+use Rattle.std.proofs.Common.{refl, rules}
+use Rattle.store_tables.specs.declared.names.Version.TheVariants.{V2}
 use Rattle.store_tables.proofs.Proved.{challenges_by_number_placed}
 use Rattle.store_sql.proofs.SelectLemmas.{question_reads, question_rows}
 use Rattle.store_sql.proofs.keys.ChallengeNumberUniqueKey.show.Goals as goal
@@ -12,4 +13,4 @@ returns-clause-reads g c =
 pub returns-clause-rows : goal.returns-clause-rows
 returns-clause-rows g c clean =
     question_rows (challenges_by_number_placed c.args.self.now.member c.args.self.now.number) (search rules) _ _
-    (λ rows. rows.items) _ c.query_all.ensures.survives clean (c.query_all.ensures.ok clean)
+    (λ rows. rows.items) _ V2 refl c.query_all.ensures.survives clean (c.query_all.ensures.ok clean)

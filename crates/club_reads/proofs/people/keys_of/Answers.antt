@@ -1,0 +1,23 @@
+use Rattle.std.proofs.Common.{[], ◌∷◌, List, map, sym, subst}
+use Rattle.sqlite.specs.Held.{state}
+use Rattle.sqlite.specs.declared.types.Value.TheVariants.{Int}
+use Rattle.store_tables.specs.Over.{HasRowsIn}
+use Rattle.store_tables.specs.internal.Cells.{key_cells}
+use Rattle.store_tables.specs.internal.Contents.{AreThose}
+use Rattle.store_tables.specs.declared.rows.KeyRow.{KeyRow}
+use Rattle.club_rows.specs.Club.{tables}
+use Rattle.club_reads.proofs.LaterLemmas.{no_first, no_keys, those_none}
+use Rattle.club_reads.proofs.people.keys_of.Goals as goal
+
+pub returns-in-V1-clause-rows : goal.returns-in-V1-clause-rows
+returns-in-V1-clause-rows g c clean s is_club version k = absurd (no_first s (rw c.in-V1.is at version))
+
+pub returns-in-V2-clause-rows : goal.returns-in-V2-clause-rows
+returns-in-V2-clause-rows g c clean s is_club version k =
+    subst (λ (l : List KeyRow). AreThose (0 ∷ []) (Int c.args.member.now.id ∷ []) (tables s 17) (map key_cells l))
+    (sym c.new-in-V2.ensures.items) (those_none _ _ _ (no_keys s is_club (rw c.in-V2.is at version)))
+
+pub returns-in_ok-rows-in-V3-clause-rows : goal.returns-in_ok-rows-in-V3-clause-rows
+returns-in_ok-rows-in-V3-clause-rows g c clean s is_club version k =
+    (c.in_ok-rows-in-V3.ensures.rows clean (tables s)
+    (subst (λ v. HasRowsIn v (tables s) (state g.S.Store c.args.conn.now)) (sym (rw c.in-V3.is at version)) k)).0

@@ -1,0 +1,8 @@
+use Rattle.std.proofs.Common.{rules}
+use Rattle.store_tables.proofs.Proved.{put_row, closing_placed}
+use Rattle.store_sql.proofs.upsert.ClosingRowUpsert.put.Goals as goal
+
+pub returns-clause-put : goal.returns-clause-put
+returns-clause-put g c clean inside version has =
+    put_row _ _ (closing_placed c.args.self.now) _ has _ _ _ _ _ c.put.ensures (search rules)
+    (c.in_ok-execute.ensures.runs clean inside)
