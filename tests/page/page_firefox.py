@@ -25,7 +25,7 @@ TEXT, CLOSE, PING, PONG = 1, 8, 9, 10
 PREFS = {
     "app.update.enabled": False, "browser.shell.checkDefaultBrowser": False, "browser.startup.page": 0,
     "datareporting.policy.dataSubmissionEnabled": False, "intl.accept_languages": "en-US, en", "network.proxy.type": 0,
-    "toolkit.telemetry.enabled": False, "ui.useOverlayScrollbars": 1,
+    "general.smoothScroll": False, "toolkit.telemetry.enabled": False, "ui.useOverlayScrollbars": 1,
 }
 # The code points of WebDriver for keys without a letter.
 KEYS = {"Enter": "\ue007", "Escape": "\ue00c", "ArrowLeft": "\ue012", "ArrowUp": "\ue013", "ArrowRight": "\ue014",
