@@ -281,7 +281,7 @@ def clock_set_back():
     prepare_wrong_clock(began)
     assert club("ourclub.db", "member", "cara", "keycara3", now=began + 30 * 86400)[0] == 0
     look, set_back, _ = documented_repairs()
-    ahead, true = re.findall(r"\d{4}-\d\d", " ".join(repair(look)))
+    ahead, true = re.findall(r"\d{4}-\d\d-\d\d", " ".join(repair(look)))
     check("the club's clock is seen to be ahead", True, ahead > true)
     club("ourclub.db", "seat", "g2", "cup", "bert", "cara", now=None)
     check("after a clock that was ahead, a game begins at the club's clock", False, has_day_left(game_lines()[1]))
