@@ -1,9 +1,10 @@
 #!/usr/bin/env python3
 """Checks a crate before those below it are proved: `ahead.py CRATE [FLAG ..]`, with flags of `rattle check`.
 
-Crates below it that are built are taken so. Of the others the sources are read: their contracts count, and their bodies are
-not checked. So the crates of one change can be proved side by side, each over the contracts of those below it. This is
-no verdict: `prove.py` and the gate prove each crate over proved ones. What a check keeps is in build/ahead/CRATE.
+Crates below it that are built are taken so. Of the others the sources are read, and the functions of these crates are
+checked too unless `--only MODULE::FUNCTION` names what is wanted: the crate's own functions, with those that they call. So
+the crates of one change can be proved side by side, each over the contracts of those below it. This is no verdict:
+`prove.py` and the gate prove each crate over proved ones. What a check keeps is in build/ahead/CRATE, also if it is stopped.
 """
 import os
 import subprocess
