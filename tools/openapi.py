@@ -13,7 +13,8 @@ import sys
 FILE = pathlib.Path(__file__).resolve().parents[1] / "docs/openapi.json"
 JSON, PLAIN, HTML = "application/json", "text/plain", "text/html; charset=utf-8"
 LAST_MOMENT = 253402300799  # the last second of the year 9999
-LARGEST_LEFT = 809136000  # the largest budget, and the largest increment for each of 300 moves
+# the largest budget, the largest increment for each of 300 moves, and 99 of the largest grants
+LARGEST_LEFT = 31536000 + 300 * 2592000 + 99 * 31536000
 
 INFO = """\
 A member of a draughts and shogi club reads and plays its games over this interface. The server listens on 127.0.0.1.
@@ -147,6 +148,7 @@ DRAUGHTS_ENDS = "NoMove Repetition KingMoves ThreeToOne TwoToOne PlyLimit".split
 SHOGI_ENDS = "NoMove PerpetualCheck Fourfold PlyLimit".split()
 RULE_ENDS = [*DRAUGHTS_ENDS, *(it for it in SHOGI_ENDS if it not in DRAUGHTS_ENDS)]
 OUTSIDE_ENDS = "Agreed Resigned Time Declared Recorded".split()
+VERDICTS = "Awarded Void".split()
 
 LEFT = array(integer(0, LARGEST_LEFT, "Seconds."), 2, "The seconds that First and Second had left at the last entry.", 2)
 CHALLENGE_NUMBER = integer(1, 9999, "The challenger's number of the challenge.")
@@ -173,6 +175,14 @@ def ended_game(end, results, description):
                         result=text("First's score, then Second's.", enum=results))
 
 
+def ruling(kind, description, **members):
+    """A ruling of an arbiter, with the members that its kind has."""
+    return reply_object(description, kind=constant(kind, "The kind of the ruling."), **members,
+                        moment=with_note("Moment", "When it was given."),
+                        number=integer(1, 99, "Its number in this game."),
+                        ply=with_note("PliesPlayed", "The plies that were played before it."))
+
+
 DECISIVE = ["2-0", "0-2"]
 TABLE_LINE = r" {0,2}[0-9]{1,3} [0-9A-Za-z._-]{1,24} *( +([0-9]+|-|\.)){6,}\n"
 SCHEMAS = {
@@ -184,7 +194,8 @@ SCHEMAS = {
     "Result": text("First's score, then Second's.", enum=["2-0", "1-1", "0-2"]),
     "Kind": text("The game that is played.", enum=["draughts", "shogi"]),
     "RuleEnd": text("An end by the rules.", enum=RULE_ENDS),
-    "End": text("An end by the rules, by the players, by time or by an imported record.", enum=RULE_ENDS + OUTSIDE_ENDS),
+    "End": text("An end by the rules, by the players, by time, by an imported record or by the arbiter.",
+                enum=RULE_ENDS + OUTSIDE_ENDS + VERDICTS),
     "MoveText": {"description": "A move as the server writes it: draughts by squares, shogi in USI.", "anyOf": [
         text("Draughts.", pattern=f"^{SQUARE}(-{SQUARE}|(x{SQUARE})+)$"),
         text("Shogi.", pattern=r"^([1-9][a-i][1-9][a-i]\+?|[RBGSNLP]\*[1-9][a-i])$")]},
@@ -193,7 +204,7 @@ SCHEMAS = {
         text("SFEN.", pattern=rf"^({RANK}/){{8}}{RANK} [bw] (-|([1-9][0-9]?)?[RBGSNLPrbgsnlp]"
                               r"(([1-9][0-9]?)?[RBGSNLPrbgsnlp])*)$")]},
     "Game": reply_object(
-        "A game. `end` and `result` are null while the game is running.",
+        "A game. `end` and `result` are null while the game is running. A void game has no result.",
         end=or_null(schema("End"), "How the game ended."),
         event=with_note("Name", "The event's name."),
         first=with_note("Name", "The member who plays First: White in draughts, Black in shogi."),
@@ -217,6 +228,12 @@ SCHEMAS = {
         now=array(integer(0, LARGEST_LEFT, "Seconds."), 2, "The seconds that First and Second have left at `moment`.", 2),
         since=with_note("Moment", "The timestamp of the last move, or of the game's start."),
         turn=or_null(NAME, "The member who is to move; null if the game has ended.")),
+    "Grant": ruling("grant", "More time for a side.", seconds=integer(1, 31536000, "The seconds."),
+                    side=text("The side.", enum=["first", "second"])),
+    "Award": ruling("award", "The game ends with a score.", result=schema("Result")),
+    "Void": ruling("void", "The game ends and does not count."),
+    "Rulings": reply_object("The arbiter's rulings on a game.", rulings=array(
+        {"oneOf": [schema("Grant"), schema("Award"), schema("Void")]}, 99, "The rulings by number.")),
     "GamePage": reply_object(
         "A game with its clock and its legal moves.",
         clock=schema("Clock"), game=schema("Game"), kind=schema("Kind"),
@@ -275,7 +292,8 @@ SCHEMAS = {
         end=schema("End"),
         ended=or_null(schema("Moment"), "The timestamp of the last move if that move ended the game."),
         event=with_note("Name", "The event's name."), first=with_note("Name", "The member who plays First."),
-        game=GAME_ID, kind=schema("Kind"), ply=schema("PliesPlayed"), result=schema("Result"),
+        game=GAME_ID, kind=schema("Kind"), ply=schema("PliesPlayed"),
+        result=or_null(schema("Result"), "The result; null if the game is void."),
         second=with_note("Name", "The member who plays Second.")),
     "Ended": reply_object(
         "The member's ended games.",
@@ -372,7 +390,7 @@ HEADERS = {
 }
 # The paths whose replies have the fields about caching, unless the head was refused.
 ANALYSES = "/analysis/draughts", "/analysis/shogi"
-NO_STORE = ("/play", "/games/{id}/clock", "/games/{id}/record", "/games/{id}/page", "/events/{name}/games",
+NO_STORE = ("/play", "/games/{id}/clock", "/games/{id}/rulings", "/games/{id}/record", "/games/{id}/page", "/events/{name}/games",
             "/events/{name}/standings", "/me", "/me/ended", "/me/events", *ANALYSES)
 REFUSED_HEAD = 400, 411, 413, 431, 501
 
@@ -388,6 +406,8 @@ ROUTES = [
     ("get", "/games/{id}/legal", "listLegalMoves", "Returns the legal moves of a game.", "games", "LegalMoves", JSON, None,
      {53: None}),
     ("get", "/games/{id}/clock", "getClock", "Returns the clock of a game.", "games", "Clock", JSON, None, {53: None}),
+    ("get", "/games/{id}/rulings", "listRulings", "Returns the arbiter's rulings on a game.", "games", "Rulings", JSON,
+     None, {53: None}),
     ("get", "/games/{id}/record", "getRecord", "Returns the record of a game, which may be running.", "games", "Record",
      PLAIN, None, {53: None}),
     ("get", "/games/{id}/page", "getGamePage", "Returns a game, its clock and its legal moves.", "games", "GamePage", JSON,

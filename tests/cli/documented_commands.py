@@ -35,7 +35,7 @@ PORT = "8080"
 CLUB = ["init", "member anna keyanna1", "member bert keybert2", "event autumn draughts 86400 3600",
         "seat g1 autumn anna bert", "move 1 1 32-28"]  # the example of README.md
 BACKUP = "backup.db"
-BY_ARBITER = re.compile(r"ourclub\.db (?:key|close)\b")
+BY_ARBITER = re.compile(r"ourclub\.db (?:key|close|rule|retire|extend)\b")
 NGINX = re.compile(r"^```nginx\n(.*?)^```$", re.MULTILINE | re.DOTALL)
 CERTIFICATE = re.compile(r"(ssl_certificate(?:_key)? +)\S*/(\S+);")
 # Commands that are not run, by a pattern of their beginning, and the reason.

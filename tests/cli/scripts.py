@@ -9,8 +9,9 @@ Without arguments it runs all scripts of tests/cli/scripts. For each line it pri
     # A comment. A line that ends with \ is continued on the next one, without the blanks that begin that one.
     1000 c.db member anna keyanna1 = 0 accepted member 1
         `club --now 1000 c.db member anna keyanna1` ends with the status 0 and prints the text, in which `|` is a line
-        break: on standard output if the status is 0, else on standard error, and nothing on the other. The status 2, a
-        usage error, has no text: something is printed on standard error.
+        break: on standard output if the status is 0 or the lines are those of a batch, which begin with a number; else
+        on standard error. Nothing is printed on the other. The status 2, a usage error, has no text: something is
+        printed on standard error.
     1000 c.db show 2 = 0 > board
         The same, with the text of that name as output, which may have `|` and leading blanks.
     club --json c.db members = 0 {"members":["anna","bert"]}
@@ -72,6 +73,7 @@ from lib.report import exit_status, result
 from lib.server import TRIES, free_port, receive
 
 SCRIPTS = TESTS / "cli/scripts"
+OF_BATCH = re.compile(r"\d+ (accepted|repeated|refused) ")
 TERM = re.compile(r'\s*(?:("(?:[^"\\]|\\.)*")|([a-z_]\w*))(?:\s*\*\s*(\d+))?\s*(?:(\+)|$)')
 REPLY = re.compile(r"(\d\d\d) (?:([A-Z][A-Za-z ]*) )?(\{.*\})")
 ASKED = re.compile(r"(\w+) ([A-Z]+) (\S+)(?: (.+))?")
@@ -260,7 +262,7 @@ class Script:
         if status == "2":
             compare((2, b"", "something"), (process.returncode, out, "something" if err else "nothing"))
         else:
-            shown, silent = (out, err) if status == "0" else (err, out)
+            shown, silent = (out, err) if status == "0" or OF_BATCH.match(text) else (err, out)
             compare((int(status), self.printed(text), b""), (process.returncode, shown, silent))
 
     def check_full(self, line):

@@ -55,7 +55,7 @@ seat d1 cup anna bert = accepted game 1
 seat s1 fuji anna bert = accepted game 2
 seat q1 quick anna bert = accepted game 3
 seat q2 quick bert anna = accepted game 4"""
-ENDED = {1: (4, None, None), 2: (12, "Fourfold", "1-1"), 3: (0, "Time", "0-2"), 4: (0, "Time", "0-2")}
+ENDED = {1: (4, None, None), 2: (12, "Fourfold", "1-1"), 3: (0, "Void", None), 4: (0, "Time", "0-2")}
 SERVED = {1: (4, "Agreed", "1-1"), 2: (12, "Fourfold", "1-1"), 5: (1, "Resigned", "2-0")}
 
 
@@ -81,6 +81,7 @@ def commands():
     yield command("upgrade --arbiter = upgraded")
     yield command("key anna 1 keyanna9 = accepted key 1", now=LATE)
     yield command("close cup = accepted closed", now=LATE)
+    yield command("rule 3 1 void = accepted ruling 1", now=LATE)
 
 
 def requests():

@@ -128,6 +128,7 @@ def main():
         club("arbiter.db", "upgrade", "--arbiter")
         check_command("a new key", few, "arbiter.db", 1000, "accepted key 1", "key", "anna", 1, "keyanna9")
         check_command("a closing", few, "arbiter.db", 1000, "accepted closed", "close", "cup")
+        check_command("a ruling", few, "arbiter.db", 1000, "accepted ruling 1", "rule", 1, 1, "award", "1-1")
     return exit_status()
 
 

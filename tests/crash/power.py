@@ -86,6 +86,9 @@ def command_cases():
     yield Case("key", (key,), keys, None, (1, "keyanna9"), files="arbiter")
     close = Command("close cup", "accepted closed", "repeated closed")
     yield Case("close", (close,), "SELECT event, moment FROM closings", None, (1, 1000), files="arbiter")
+    rule = Command("rule 1 1 award 1-1", "accepted ruling 1", "repeated ruling 1")
+    ruled = "SELECT kind, rulings.result, games.result FROM rulings JOIN games ON id = game"
+    yield Case("rule", (rule,), ruled, None, (2, "1-1", "1-1"), files="arbiter")
     yield command("member", "member dora keydora4", "accepted member 4", COUNT.format("members"), (3, 3), (4, 4))
     yield command("event", "event open draughts 3600 10", "accepted event 4", COUNT.format("events"), (3, 3), (4, 4))
     yield command("seat", "seat d3 cup cara bert", "accepted game 7", COUNT.format("games"), (6, 6), (7, 7))

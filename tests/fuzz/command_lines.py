@@ -21,9 +21,10 @@ KINDS = {  # the kinds of each command's words
     "import-csa": ("name", "name", "name", "name", "record"), "move": ("number", "number", "move"), "sweep": (),
     "legal": ("number",), "export": ("number",), "table": ("name",), "verify": (), "upgrade": (),
     "members": (), "events": (), "challenges": (), "key": ("name", "number", "key"), "close": ("name",),
+    "rulings": ("number",), "rule": ("number", "number", "ruling"),  # a ruling has further words
     "games": (),  # options come after the last
 }
-JSON_COMMANDS = "legal", "members", "events", "challenges", "games"
+JSON_COMMANDS = "legal", "members", "events", "challenges", "games", "rulings"
 POOLS = {
     "name": ("anna", "bert", "cara", "dora", "autumn", "fuji", "winter", "g1", "g2", "g3", "a", "a" * 24, "a" * 25,
              "a.b_c-d", "", "an na", "\u00e4", "anna\n", "Anna", "a" * 300, "a/b", "%", "'", "a\tb", "\udcff", "0",
@@ -37,12 +38,17 @@ POOLS = {
     "move": ("32-28", "19-23", "28x19", "31-26", "17-22", "7g7f", "3c3d", "8h2b+", "P*5e", "2g2f", "28x", "51-46", "",
              "3", "050-5", "005-1", "32-28 ", "x", "7g7", "P*", "7g7f++", "K*5e", "7j7i", "1" * 200, "1" * 201,
              "32:28:19", "\u00e4", "3\u0662-28", "32-28\n", "20-25", "14-20", "33-29", "\udcff", "\u20ac" * 70),
+    "ruling": ("void", "award", "grant", "void", "award", "grant", "void", "award", "", "voids", "Void", "draw"),
+    "side": ("first", "second", "first", "second", "First", "both", ""),
+    "score": ("2-0", "1-1", "0-2", "1-1", "2-2", "1-0", "", "2", "=", "\udcff"),
     "record": ("-", "evening.pdn", "draw.pdn", "two.csa", "resigned.csa", "checkmate.csa", "nowhere", "folder",
                "long", "empty"),
 }
 PLAYERS = "anna", "bert", "cara", "dora"
 COMMANDS = (*KINDS, *("member", "event", "seat", "move", "move", "move", "import-pdn", "import-csa", "legal",
-            "export", "table", "games", "games", "key", "key"))
+            "export", "table", "games", "games", "key", "key", "rule", "rule", "rule"))
+VALUES_OF_RULINGS = {"grant": ("side", "number"), "award": ("score",), "void": ()}
+SCORES = "2-0", "1-1", "0-2"
 BY_ARBITER = "init", "upgrade"  # which have the flag `--arbiter`
 NAMED, FLAGS = ("--event", "--member"), ("--running", "--overdue")
 ODD_OPTIONS = (*NAMED, *FLAGS, *FLAGS, "--event=", "--member=-a", "--running=1", "--ended", "--over", "--Event", "-",
@@ -68,6 +74,8 @@ def words_of(chance, club):
     words = [chance.choice(POOLS[kind][:8] if chance.random() < 0.75 else POOLS[kind]) for kind in KINDS[command]]
     if chance.random() < 0.8:
         words = likely(chance, club, command, words)
+    if command == "rule" and words[-1] in VALUES_OF_RULINGS:
+        words += [chance.choice(POOLS[kind]) for kind in VALUES_OF_RULINGS[words[-1]]]
     if command in BY_ARBITER and chance.random() < 0.15:
         words.append("--arbiter")
     if command == "import-csa" and chance.random() < 0.4:
@@ -112,11 +120,29 @@ def likely(chance, club, command, words):
         number = max(len(keys) + chance.choice((0, 0, 0, 0, -1, -1, 1)), 0)
         fresh = f"key{name}{number}{chance.randint(100, 999)}"
         return [name, str(number), chance.choice((*keys, fresh, fresh, words[2], "-"))]
+    if command == "rule":
+        game = chance.choice(club.games)
+        number = max(len(game.rulings) + chance.choice((1, 1, 1, 1, 0, 0, 2)), 0)
+        return [str(game.number), str(number), *likely_ruling(chance, game, number)]
     if command == "close":
         return [chance.choice([*club.events])] if chance.random() < 0.3 else words
-    if command in ("legal", "export"):
+    if command in ("legal", "export", "rulings"):
         return [str(chance.randint(1, len(club.games)))]
     return likely_move(chance, club, words) if command == "move" else words
+
+
+def ruling_words(ruling):
+    """The words of a ruling of the model."""
+    return ["grant", ("first", "second")[ruling[1]], str(ruling[2])] if ruling[0] == "grant" else [*ruling]
+
+
+def likely_ruling(chance, game, number):
+    """The ruling that stands under the number, or another one."""
+    if 1 <= number <= len(game.rulings) and chance.random() < 0.6:
+        return ruling_words(game.rulings[number - 1][0])
+    seconds = chance.choice((1, 60, 3600, 86400, 31536000, 31536001, 0))
+    grant = "grant", chance.choice((0, 1)), seconds
+    return ruling_words(chance.choice((grant, grant, grant, ("award", chance.choice(SCORES)), ("void",))))
 
 
 def likely_move(chance, club, words):
@@ -157,7 +183,7 @@ def changed(chance, words):
 
 def moments(chance, club, command):
     """The words of the timestamp, mostly that of before or a little later; it may be missing from a query."""
-    if command in ("verify", "legal", "export", "table", "members", "events", "challenges") and chance.random() < 0.2:
+    if command in ("verify", "legal", "export", "table", "members", "events", "challenges", "rulings") and chance.random() < 0.2:
         return []
     if command == "games" and chance.random() < 0.5:
         return ["--now", str(chance.choice(club.games).deadline() + chance.choice((-1, 0, 1)))]
@@ -216,12 +242,26 @@ def order_of(words):
         part, values = number_of(values[1]), values[2:]
     if command in BY_ARBITER and values == ["--arbiter"]:
         return now, command, values, part, is_json
+    if command == "rule":
+        return now, command, ruled(values), part, is_json
     if "--part" in values or "--now" in words or "--arbiter" in values or len(values) != len(KINDS[command]):
         raise BadWords
     values = [number_of(value) if kind == "number" else value for kind, value in zip(KINDS[command], values)]
     if command == "event" and values[1] not in ("draughts", "shogi"):
         raise BadWords
     return now, command, values, part, is_json
+
+
+def ruled(values):
+    """The game, the number and the ruling that words name."""
+    kind, *more = values[2:] or [""]
+    if kind not in VALUES_OF_RULINGS or len(more) != len(VALUES_OF_RULINGS[kind]):
+        raise BadWords
+    if kind == "award" and more[0] not in SCORES or kind == "grant" and more[0] not in ("first", "second"):
+        raise BadWords
+    if kind == "grant":
+        more = [("first", "second").index(more[0]), number_of(more[1])]
+    return [number_of(values[0]), number_of(values[1]), (kind, *more)]
 
 
 def is_open(word):
@@ -274,7 +314,7 @@ def printed(club, order, standard_input):
     acts = {"member": club.add_member, "event": club.add_event, "seat": club.add_seat, "move": club.do_officers_move,
             "sweep": club.do_sweep, "legal": club.do_list, "export": club.do_export, "table": club.do_table,
             "verify": club.do_verify, "upgrade": club.do_upgrade, "members": club.do_members, "key": club.add_key,
-            "close": club.do_close,
+            "close": club.do_close, "rule": club.do_rule, "rulings": club.do_ruling_lines,
             "events": club.do_events, "challenges": club.do_challenges, "games": club.do_games}
     if command.startswith("import-"):
         text = record_of(values[-1], standard_input)

@@ -28,6 +28,7 @@ STATUSES = {50: 401, 51: 403, 55: 403, 52: 404, 53: 404, 54: 404, 63: 422, 65: 4
 STATES = ["open", "withdrawn", "refused", "accepted"]
 RULES = {"draughts": draughts, "shogi": shogi}
 OUTSIDE_ENDS = ["Resigned", "Agreed", "Time", "Declared", "Recorded"]  # that no move makes
+VERDICTS = ["Awarded", "Void"]  # ends that the arbiter gives
 MOST_ENDED, MOST_REFUSED, MOST_OWN, MOST_RECEIVED, MOST_OF_EACH = 200, 20, 100, 100, 10  # in the lists of a member
 MOST_TRIED = 64  # moves of an analysis
 ROUND_KEY = re.compile(r"(?:.*[^0-9])?([1-9][0-9]?)\.([1-9][0-9]?)")
@@ -51,7 +52,24 @@ class Game:
         self.start = self.since = moment
         self.line = RULES[event["game"]].Line()
         self.left, self.texts, self.replies, self.moments = [event["budget"]] * 2, [], [], []
-        self.offer = self.end = self.result = None
+        self.offer = None
+        self.rulings = []  # each with its timestamp and the plies that were played before it
+        self.by_rule = self.verdict = self.outside = None  # the three ends that it may have: its name and its result
+
+    @property
+    def end(self):
+        found = self.by_rule or self.verdict or self.outside
+        return found and found[0]
+
+    @property
+    def result(self):
+        found = self.by_rule or self.verdict or self.outside
+        return found and found[1]
+
+    def result_beneath(self):
+        """The result that the game would have without the arbiter's verdict."""
+        found = self.by_rule or self.outside
+        return found and found[1]
 
     def side(self, member):
         if member not in self.players:
@@ -78,18 +96,20 @@ class Game:
         return self.offer and self.players[self.offer[0]]
 
     def lost_by(self, side, end):
-        self.end, self.result = end, ("0-2", "2-0")[side]
-        return {"end": end, "game": self.number, "result": self.result}
+        self.outside = end, ("0-2", "2-0")[side]
+        return self.ended_outside()
 
     def is_lost_by(self, side, end):
-        return self.end == end and self.result == ("0-2", "2-0")[side]
+        return self.outside == (end, ("0-2", "2-0")[side])
 
     def must_run(self):
         if self.end:
             raise Refused(56)
 
-    def ended(self):
-        return {"end": self.end, "game": self.number, "result": self.result}
+    def ended_outside(self):
+        """The reply to the command that ended the game, whatever the arbiter decided since."""
+        end, result = self.outside
+        return {"end": end, "game": self.number, "result": result}
 
     def move(self, member, ply, text, moment):
         side = self.side(member)
@@ -126,9 +146,7 @@ class Game:
         self.line.push(move)
         self.left[side] += self.event["increment"] - spent
         self.offer = None
-        end = self.line.end()
-        if end:
-            self.end, self.result = end
+        self.by_rule = self.line.end()
         self.replies.append({"end": self.end, "game": self.number, "left": self.left[side], "move": self.texts[-1],
                              "ply": self.plies(), "position": self.line.position_text()})
 
@@ -146,14 +164,14 @@ class Game:
     def accept_draw(self, member, ply):
         side = self.side(member)
         self.must_be_draughts()
-        if self.end == "Agreed" and self.offer == (1 - side, ply):
-            return self.ended()
+        if self.outside == ("Agreed", "1-1") and self.offer == (1 - side, ply):
+            return self.ended_outside()
         self.must_run()
         self.must_be_next(ply)
         if self.offer != (1 - side, ply):
             raise Refused(62)
-        self.end, self.result = "Agreed", "1-1"
-        return self.ended()
+        self.outside = "Agreed", "1-1"
+        return self.ended_outside()
 
     def must_be_draughts(self):
         if self.event["game"] != "draughts":
@@ -166,7 +184,7 @@ class Game:
     def resign(self, member):
         side = self.side(member)
         if self.is_lost_by(side, "Resigned"):
-            return self.ended()
+            return self.ended_outside()
         self.must_run()
         if side != self.turn():
             raise Refused(59)
@@ -175,7 +193,7 @@ class Game:
     def claim(self, member, moment):
         side = self.side(member)
         if self.is_lost_by(1 - side, "Time"):
-            return self.ended()
+            return self.ended_outside()
         self.must_run()
         if side == self.turn():
             raise Refused(59)
@@ -187,7 +205,7 @@ class Game:
         """Of a king that has entered: each event has declarations."""
         side = self.side(member)
         if ply == self.plies() + 1 and self.is_lost_by(1 - side, "Declared"):
-            return self.ended()
+            return self.ended_outside()
         self.must_run()
         self.must_be_next(ply)
         if side != self.turn():
@@ -195,6 +213,49 @@ class Game:
         if self.event["game"] != "shogi" or not shogi.may_declare(self.line.position):
             raise Refused(67)
         return self.lost_by(1 - side, "Declared")
+
+    def ruling_refusal(self, number, ruling):
+        """The number of the refusal of a ruling that is no repeat, or None."""
+        kind, value = ruling[0], ruling[-1]
+        if self.by_rule or kind == "grant" and self.end:
+            return 56
+        if 1 <= number <= len(self.rulings):
+            return 58
+        if number != len(self.rulings) + 1 or kind == "grant" and not 1 <= value <= 31536000:
+            return 65
+        return 66 if number > 99 else None
+
+    def rule(self, number, ruling, moment):
+        """Gives a ruling, ("grant", side, seconds), ("award", score) or ("void",). Returns whether it is new."""
+        if 1 <= number <= len(self.rulings) and self.rulings[number - 1][0] == ruling:
+            return False
+        refused = self.ruling_refusal(number, ruling)
+        if refused:
+            raise Refused(refused)
+        beneath = None if self.verdict else self.outside
+        self.rulings.append((ruling, moment, self.plies(), beneath if ruling[0] != "grant" else None))
+        if ruling[0] == "grant":
+            self.left[ruling[1]] += ruling[2]
+        else:
+            self.verdict = ("Awarded", ruling[1]) if ruling[0] == "award" else ("Void", None)
+        return True
+
+    def rulings_told(self):
+        found = []
+        for number, (ruling, moment, ply, _) in enumerate(self.rulings, 1):
+            values = {"kind": ruling[0], "moment": moment, "number": number, "ply": ply}
+            if ruling[0] == "grant":
+                values |= {"seconds": ruling[2], "side": ("first", "second")[ruling[1]]}
+            if ruling[0] == "award":
+                values |= {"result": ruling[1]}
+            found.append(values)
+        return {"rulings": found}
+
+    def ruling_rows(self):
+        for number, (ruling, moment, ply, beneath) in enumerate(self.rulings, 1):
+            is_grant, is_award = ruling[0] == "grant", ruling[0] == "award"
+            yield (self.number, number, moment, ply, ruling[1] if is_grant else 2 if is_award else 3,
+                   ruling[2] if is_grant else 0, ruling[1] if is_award else None, *(beneath or (None, None)))
 
     def shown(self):
         return {"end": self.end, "event": self.event["name"], "first": self.players[0], "game": self.number,
@@ -226,7 +287,7 @@ class Game:
         return int(found[1]) if found and int(found[1]) <= 62 and int(found[2]) <= 16 else None
 
     def mine_ended(self):
-        return {"end": self.end, "ended": None if self.end in OUTSIDE_ENDS else self.since,
+        return {"end": self.end, "ended": None if self.end in OUTSIDE_ENDS + VERDICTS else self.since,
                 "event": self.event["name"], "first": self.players[0], "game": self.number,
                 "kind": self.event["game"], "ply": self.plies(), "result": self.result, "second": self.players[1]}
 
@@ -290,6 +351,9 @@ class Club:
     def do_legal(self, _, number):
         return self.game_of(number).legal()
 
+    def do_rulings(self, _, number):
+        return self.game_of(number).rulings_told()
+
     def do_clock(self, _, number):
         return self.game_of(number).clock(max(self.last, self.moment))
 
@@ -337,7 +401,7 @@ class Club:
 
     def do_standings(self, _, name):
         event = self.event_of(name)
-        games = [(*it.players, it.result) for it in self.games_in(event)]
+        games = [(*it.players, it.result) for it in self.games_in(event) if it.end != "Void"]
         return {"event": event["name"], "kind": event["game"], "standings": standings([*self.members], games)}
 
     def do_inviting(self, member):
@@ -440,7 +504,7 @@ class Club:
         """The cross table of an event."""
         met = {}
         for game in self.games:
-            if game.event is event and game.end:
+            if game.event is event and game.result:
                 for side in (0, 1):
                     points = {"2-0": (2, 0), "1-1": (1, 1), "0-2": (0, 2)}[game.result][side]
                     row = met.setdefault(game.players[side], {})
@@ -460,9 +524,10 @@ class Club:
         for game in self.games:
             if game.end:
                 for side in (0, 1):
-                    points = {"2-0": (2, 0), "1-1": (1, 1), "0-2": (0, 2)}[game.result][side]
                     pair = events[game.event["name"]], members[game.players[side]], members[game.players[1 - side]]
-                    met.setdefault(pair, []).append(points)
+                    counted = met.setdefault(pair, [])  # nothing of a void game
+                    if game.result:
+                        counted.append({"2-0": (2, 0), "1-1": (1, 1), "0-2": (0, 2)}[game.result][side])
         return sorted((*pair, sum(it), it.count(2), it.count(1), it.count(0)) for pair, it in met.items())
 
     def rows(self):
@@ -493,4 +558,5 @@ class Club:
         keys = [(members[name], number, key) for name, keys in self.members.items()
                 for number, key in enumerate(keys[1:], 1)]
         closings = sorted((events[it], moment) for it, moment in self.closings.items())
-        return {"keys": keys, "rulings": [], "closings": closings}
+        rulings = [row for game in self.games for row in game.ruling_rows()]
+        return {"keys": keys, "rulings": rulings, "closings": closings}

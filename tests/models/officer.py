@@ -30,13 +30,17 @@ def told_refusal(refusing):
     return " ".join(map(str, ("refused", number, NAMES[number], *more))) + "\n"
 
 
+def moment_text(moment):
+    return time.strftime("%Y-%m-%dT%H:%M:%SZ", time.gmtime(moment)) if moment <= LAST_MOMENT else "never"
+
+
 def game_line(game):
     """A game's line in a list, with the last second in which the side to move is in time."""
     parts = ["game", game.number, game.event["name"], *game.players, game.key or "=", "ply", game.plies()]
-    until = "never"
-    if game.deadline() <= LAST_MOMENT:
-        until = time.strftime("%Y-%m-%dT%H:%M:%SZ", time.gmtime(game.deadline()))
-    parts += ["end", game.end, game.result] if game.end else ["turn", game.players[game.turn()], "until", until]
+    if game.end:
+        parts += ["end", game.end] + ([game.result] if game.result else [])  # a void game has none
+    else:
+        parts += ["turn", game.players[game.turn()], "until", moment_text(game.deadline())]
     return " ".join(map(str, parts)) + "\n"
 
 
@@ -118,6 +122,18 @@ class OfficersClub(Club):
         self.closings[event] = self.now()
         return self.accepted("closed")
 
+    def do_rule(self, game, number, ruling):
+        self.must_have_arbiter()
+        is_new = self.game_of(game).rule(number, ruling, self.now())
+        return self.accepted(f"ruling {number}") if is_new else f"repeated ruling {number}\n"
+
+    def do_ruling_lines(self, game):
+        lines = []
+        for number, (ruling, moment, ply, _) in enumerate(self.game_of(game).rulings, 1):
+            words = ["grant", ("first", "second")[ruling[1]], ruling[2]] if ruling[0] == "grant" else ruling
+            lines.append(" ".join(map(str, ("ruling", number, moment_text(moment), "ply", ply, *words))) + "\n")
+        return "".join(lines)
+
     def add_event(self, name, game, budget, increment):
         asked = {"name": name, "game": game, "budget": budget, "increment": increment}
         number = [*self.events].index(name) + 1 if name in self.events else len(self.events) + 1
@@ -157,7 +173,7 @@ class OfficersClub(Club):
             self.must_be_free(key, first, second)
             raise refusing
         if (found and found.event is wanted and found.players == (first, second)
-                and (found.texts, found.result) == (moves, score)):
+                and (found.texts, found.result_beneath()) == (moves, score)):
             return f"repeated game {found.number}\n"
         self.must_be_free(key, first, second)
         game = self.seat(key, event, first, second, self.now())
@@ -165,7 +181,7 @@ class OfficersClub(Club):
             game.played(game.turn(), move, 0)
             game.moments.append(game.start)
         if not game.end:
-            game.end, game.result = "Recorded", score
+            game.outside = "Recorded", score
         return self.accepted(f"game {game.number}")
 
     def record(self, kind, part, event, text):
@@ -248,6 +264,8 @@ class OfficersClub(Club):
             return to_json({"games": [game_object(it) for it in self.games_listed(*values)]})
         if command in ("legal", "show"):
             return to_json(self.do_legal(None, *values) if command == "legal" else self.do_page(None, *values))
+        if command == "rulings":
+            return to_json(self.do_rulings(None, *values))
         return to_json({command: {"members": self.member_objects, "events": self.event_objects,
                                   "challenges": self.challenge_objects}[command]()})
 

@@ -40,7 +40,7 @@ def csa_move(position, move):
 def csa_end(game):
     illegal = "%+ILLEGAL_ACTION" if game.result == "0-2" else "%-ILLEGAL_ACTION"
     mover_lost = game.result == ("0-2", "2-0")[game.turn()]
-    if game.end == "Recorded":
+    if game.end in ("Recorded", "Awarded"):
         return "%HIKIWAKE" if game.result == "1-1" else "%TORYO" if mover_lost else illegal
-    return {None: "%CHUDAN", "NoMove": "%TSUMI", "PerpetualCheck": illegal, "Fourfold": "%SENNICHITE",
+    return {None: "%CHUDAN", "Void": "%CHUDAN", "NoMove": "%TSUMI", "PerpetualCheck": illegal, "Fourfold": "%SENNICHITE",
             "PlyLimit": "%JISHOGI", "Resigned": "%TORYO", "Time": "%TIME_UP"}[game.end]

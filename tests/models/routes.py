@@ -49,6 +49,7 @@ ROUTES = (
     get("/games/ID", "game"),
     get("/games/ID/legal", "legal"),
     get("/games/ID/clock", "clock", forbids_storing=True),
+    get("/games/ID/rulings", "rulings", forbids_storing=True),
     get("/games/ID/record", "record", forbids_storing=True),
     get("/games/ID/page", "page", forbids_storing=True),
     get("/events/NAME/table", "table"),

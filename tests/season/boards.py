@@ -33,7 +33,7 @@ def tried(kind, played, texts, position=None):
 
 def standing(game, moment):
     if game.end:
-        return f"ended {game.end} {game.result}"
+        return " ".join(["ended", game.end, *([game.result] if game.result else [])])
     side = ("WB" if game.event.game == "draughts" else "BW")[game.turn()]
     clocks = ", ".join(f"{name} {left}" for name, left in zip(game.players, game.now(moment)))
     return f"{side} to move, ply {len(game.texts)}, {clocks}"

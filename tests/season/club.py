@@ -15,7 +15,7 @@ from models.standings import standings
 
 LAST_MOMENT = 253402300799
 RULES = {"draughts": draughts, "shogi": shogi}
-OUTSIDE_ENDS = "Resigned", "Agreed", "Time", "Declared", "Recorded"  # that no move makes
+OUTSIDE_ENDS = "Resigned", "Agreed", "Time", "Declared", "Recorded", "Awarded", "Void"  # that no move makes
 NAMES = {50: "UnknownKey", 52: "UnknownEvent", 53: "UnknownGame", 65: "BadValue", 68: "EventClosed", 72: "Damaged", 82: "NoRoute",
          83: "WrongMethod"}  # of the refusals that a question may have
 PHRASES = {200: "OK", 401: "Unauthorized", 404: "Not Found", 405: "Method Not Allowed", 503: "Service Unavailable"}
@@ -24,7 +24,7 @@ FURTHER = {50: "WWW-Authenticate: Member-Key\r\n", 83: "Allow: GET\r\n"}
 OPENING = ("KY KE GI KI OU KI GI KE KY", ". HI . . . . . KA .", "FU FU FU FU FU FU FU FU FU")  # from file 9, as White
 LETTERS = {"P": "FU", "L": "KY", "N": "KE", "S": "GI", "G": "KI", "B": "KA", "R": "HI"}
 PROMOTED = {"FU": "TO", "KY": "NY", "KE": "NK", "GI": "NG", "KA": "UM", "HI": "RY"}
-CSA_ENDS = {None: "%CHUDAN", "Fourfold": "%SENNICHITE", "NoMove": "%TSUMI", "PlyLimit": "%JISHOGI",
+CSA_ENDS = {None: "%CHUDAN", "Void": "%CHUDAN", "Fourfold": "%SENNICHITE", "NoMove": "%TSUMI", "PlyLimit": "%JISHOGI",
             "Resigned": "%TORYO", "Time": "%TIME_UP", "Declared": "%KACHI"}
 
 
@@ -61,6 +61,7 @@ class Game:
         self.start = self.since = moment
         self.left, self.texts, self.spent = [event.budget] * 2, [], []
         self.offer = self.end = self.result = None
+        self.rulings = []  # each with its moment and the number of plies before it
         self.line = RULES[event.game].Line()
 
     def turn(self):
@@ -92,6 +93,15 @@ class Game:
 
     def ended(self, end, result):
         self.end, self.result = end, result
+
+    def ruled(self, ruling, moment):
+        """More time for a side, a score or a void game: the words of a ruling."""
+        kind, *values = ruling.split()
+        self.rulings.append((ruling, moment, len(self.texts)))
+        if kind == "grant":
+            self.left[values[0] == "second"] += int(values[1])
+        else:
+            self.ended(*("Awarded", values[0]) if kind == "award" else ("Void", None))
 
     def lost_by(self, member, end):
         self.ended(end, "0-2" if member == self.players[0] else "2-0")
@@ -127,6 +137,12 @@ class Club:
     def close_event(self, name, moment):
         self.accepted(moment)
         self.events[name].closed = True
+
+    def rule(self, number, ruling, moment):
+        """The number of the ruling."""
+        game = self.game_of(number)
+        game.ruled(ruling, self.accepted(moment))
+        return len(game.rulings)
 
     def add_event(self, name, game, budget, increment, moment):
         self.accepted(moment)
@@ -167,7 +183,8 @@ class Club:
     def printed(self, words, now):
         """The status of a word that asks, its standard output and its standard error."""
         shown = {"members": self.members_listed, "events": self.events_listed, "games": self.games_listed,
-                 "table": self.table, "export": lambda it: record(self.game_of(int(it)))}
+                 "table": self.table, "export": lambda it: record(self.game_of(int(it))),
+                 "rulings": lambda it: lined(ruling_lines(self.game_of(int(it))))}
         try:
             values = (words[1:], now) if words[0] == "games" else words[1:]
             return 0, shown[words[0]](*values), ""
@@ -205,8 +222,8 @@ class Club:
         return lined(map(game_line, games))
 
     def table(self, name):
-        """The cross table of an event."""
-        ended = [it for it in self.games if it.event is self.event_of(name) and it.end]
+        """The cross table of an event; a void game does not count."""
+        ended = [it for it in self.games if it.event is self.event_of(name) and it.result]
         met = {member: [it for it in ended if member in it.players] for member in self.keys}
         points = {member: [it.points(member) for it in games] for member, games in met.items() if games}
         order = sorted(points, key=lambda it: (-sum(points[it]), -points[it].count(2), self.id_of(it)))
@@ -233,7 +250,7 @@ class Club:
         routes = {("me",): self.me, ("me", "ended"): self.my_ended, ("me", "events"): self.my_events,
                   ("events", "games"): self.event_games, ("events", "standings"): self.event_standings,
                   ("events", "table"): self.event_table, ("games", "clock"): self.clock,
-                  ("games", "record"): self.game_record}
+                  ("games", "record"): self.game_record, ("games", "rulings"): self.game_rulings}
         words = path.split("/")[1:]
         asked = routes[tuple(words) if words[0] == "me" else (words[0], words[2])]
         try:
@@ -271,7 +288,7 @@ class Club:
 
     def event_standings(self, words, member, moment):
         event = self.event_of(words[1])
-        games = [(*it.players, it.result) for it in self.games if it.event is event]
+        games = [(*it.players, it.result) for it in self.games if it.event is event and it.end != "Void"]
         return to_json({"event": event.name, "kind": event.game, "standings": standings([*self.keys], games)})
 
     def event_table(self, words, member, moment):
@@ -285,6 +302,10 @@ class Club:
 
     def game_record(self, words, member, moment):
         return "text/plain", record(self.game_of(int(words[1])))
+
+    def game_rulings(self, words, member, moment):
+        rulings = self.game_of(int(words[1])).rulings
+        return to_json({"rulings": [ruling_shown(number, *it) for number, it in enumerate(rulings, 1)]})
 
 
 def lined(lines):
@@ -314,7 +335,8 @@ def round_of(key):
 
 def game_line(game):
     parts = ["game", game.number, game.event.name, *game.players, game.key or "=", "ply", len(game.texts)]
-    parts += ["end", game.end, game.result] if game.end else ["turn", game.mover(), "until", until(game.deadline())]
+    parts += (["end", game.end, *([game.result] if game.result else [])] if game.end
+              else ["turn", game.mover(), "until", until(game.deadline())])
     return " ".join(map(str, parts))
 
 
@@ -340,6 +362,18 @@ def ended_shown(game):
     return {"end": game.end, "ended": None if game.end in OUTSIDE_ENDS else game.since, "event": game.event.name,
             "first": game.players[0], "game": game.number, "kind": game.event.game, "ply": len(game.texts),
             "result": game.result, "second": game.players[1]}
+
+
+def ruling_lines(game):
+    return (f"ruling {number} {until(moment)} ply {ply} {ruling}"
+            for number, (ruling, moment, ply) in enumerate(game.rulings, 1))
+
+
+def ruling_shown(number, ruling, moment, ply):
+    kind, *values = ruling.split()
+    further = {"grant": lambda side, seconds: {"seconds": int(seconds), "side": side},
+               "award": lambda result: {"result": result}, "void": dict}[kind](*values)
+    return {"kind": kind, "moment": moment, "number": number, "ply": ply, **further}
 
 
 def challenge_shown(challenge):
@@ -377,9 +411,13 @@ def csa(game):
 
 
 def csa_end(game):
-    if game.end != "Recorded":
+    """An awarded game is written as a recorded one, a void one as one that runs."""
+    if game.end not in ("Recorded", "Awarded"):
         return CSA_ENDS[game.end]
-    return "%HIKIWAKE" if game.result == "1-1" else "%TORYO"
+    if game.result == "1-1":
+        return "%HIKIWAKE"
+    loser = ("0-2", "2-0").index(game.result)
+    return "%TORYO" if loser == game.turn() else f"%{'+-'[loser]}ILLEGAL_ACTION"
 
 
 def csa_move(board, text):

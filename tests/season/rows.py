@@ -29,7 +29,7 @@ EVENTS = """SELECT 'event ' || id || ' ' || name || ' ' || iif(game, 'shogi', 'd
 FROM events ORDER BY id"""
 GAMES = """SELECT 'game ' || id || ' ' || name || ' ' || white || ' ' || black || ' ' || ifnull("key", '=') || ' ply '
     || plies || iif(runs, ' turn ' || mover || ' until ' ||
-        ifnull(strftime('%Y-%m-%dT%H:%M:%SZ', until, 'unixepoch'), 'never'), ' end ' || "end" || ' ' || result)
+        ifnull(strftime('%Y-%m-%dT%H:%M:%SZ', until, 'unixepoch'), 'never'), ' end ' || "end" || ifnull(' ' || result, ''))
     || char(10) AS line
 FROM dated
 WHERE (:event IS NULL OR name = :event) AND (:member IS NULL OR :member IN (white, black)) AND (NOT :running OR runs)
@@ -63,7 +63,7 @@ SELECT json_object('challenges', json((SELECT json_group_array(json(text)) FROM 
             AND state = 2 AND me.name = :member ORDER BY number DESC LIMIT 20)))) FROM given"""
 ENDED = """SELECT json_object('games', json((SELECT json_group_array(json(text)) FROM (
         SELECT json_object('end', "end",
-            'ended', iif("end" IN ('Resigned', 'Agreed', 'Time', 'Declared', 'Recorded'), NULL, since), 'event', name,
+            'ended', iif("end" IN ('Resigned', 'Agreed', 'Time', 'Declared', 'Recorded', 'Awarded', 'Void'), NULL, since), 'event', name,
             'first', white, 'game', id, 'kind', kind, 'ply', plies, 'result', result, 'second', black) AS text
         FROM dated WHERE NOT runs AND :member IN (white, black) ORDER BY id DESC LIMIT 200))),
     'member', :member, 'moment', moment, 'more', max(0, -200 + (
@@ -86,9 +86,10 @@ SELECT json_object('games', json(json_group_array(json(text)))) FROM (
         (SELECT round FROM endings WHERE "key" = ending OR "key" GLOB '*[^0-9]' || ending),
         'second', black, 'turn', iif(runs, mover, NULL)) AS text
     FROM dated WHERE name = :event ORDER BY id)"""
-STANDINGS = """, sides AS (
-    SELECT white AS member, black AS other, substr(result, 1, 1) + 0 AS points, runs FROM dated WHERE name = :event
-    UNION ALL SELECT black, white, substr(result, 3, 1) + 0, runs FROM dated WHERE name = :event),
+STANDINGS = """, counted AS (SELECT * FROM dated WHERE name = :event AND "end" IS NOT 'Void'),
+sides AS (
+    SELECT white AS member, black AS other, substr(result, 1, 1) + 0 AS points, runs FROM counted
+    UNION ALL SELECT black, white, substr(result, 3, 1) + 0, runs FROM counted),
 totals AS (
     SELECT member, ifnull(sum(points), 0) AS points, count(points) AS games, count(*) - count(points) AS running,
         count(iif(points = 2, 1, NULL)) AS wins, count(iif(points = 1, 1, NULL)) AS draws,
@@ -110,6 +111,17 @@ CLOCK = """SELECT json_object('deadline', iif(runs, until, NULL), 'game', id, 'l
     'moment', moment, 'now', json_array(iif(runs AND NOT plies % 2, max(0, deadline - moment), left1),
         iif(runs AND plies % 2, max(0, deadline - moment), left2)),
     'since', since, 'turn', iif(runs, mover, NULL)) FROM dated, given WHERE id = :game"""
+RULINGS = """SELECT json_object('rulings', json(json_group_array(json(text)))) FROM (
+    SELECT CASE
+        WHEN kind < 2 THEN json_object('kind', 'grant', 'moment', moment, 'number', number, 'ply', ply, 'seconds', seconds,
+            'side', iif(kind, 'second', 'first'))
+        WHEN kind = 2 THEN json_object('kind', 'award', 'moment', moment, 'number', number, 'ply', ply, 'result', result)
+        ELSE json_object('kind', 'void', 'moment', moment, 'number', number, 'ply', ply) END AS text
+    FROM rulings WHERE game = :game ORDER BY number)"""
+RULING_LINES = """SELECT 'ruling ' || number || ' ' || strftime('%Y-%m-%dT%H:%M:%SZ', moment, 'unixepoch') || ' ply ' || ply
+    || CASE WHEN kind < 2 THEN ' grant ' || iif(kind, 'second', 'first') || ' ' || seconds
+        WHEN kind = 2 THEN ' award ' || result ELSE ' void' END || char(10) AS line
+FROM rulings WHERE game = :game ORDER BY number"""
 OPTIONS = {"event": None, "member": None, "running": 0, "overdue": 0}
 
 
@@ -127,8 +139,9 @@ class Rows:
         copy_files(folder, self.room)
         self.found = sqlite3.connect(f"{self.room}/c.db")
         self.held = tables(self.found)
-        for table in {"keys", "closings"} - self.held.keys():  # a club of schema 2 has neither
-            self.found.execute(f"CREATE TEMP TABLE {table} (member, number, event)")
+        for table in {"keys", "rulings", "closings"} - self.held.keys():  # a club of schema 2 has none
+            columns = "member, number, event, game, moment, ply, kind, seconds, result"
+            self.found.execute(f"CREATE TEMP TABLE {table} ({columns})")
 
     def close(self):
         self.found.close()
@@ -145,6 +158,8 @@ class Rows:
         """What a word lists, or None."""
         if words[0] in ("members", "events"):
             return self.lines(MEMBERS if words[0] == "members" else EVENTS, now=now)
+        if words[0] == "rulings":
+            return self.lines(RULING_LINES, game=int(words[1]), now=now)
         if words[0] != "games":
             return None
         asked, options = dict(OPTIONS), list(words[1:])
@@ -161,7 +176,8 @@ class Rows:
             return self.one(mine[path], member=member, now=now)
         if words[2] in ("games", "standings"):
             return self.one(EVENT_GAMES if words[2] == "games" else STANDINGS, event=words[1], now=now)
-        return self.one(CLOCK, game=int(words[1]), now=now) if words[2] == "clock" else None
+        queries = {"clock": CLOCK, "rulings": RULINGS}
+        return self.one(queries[words[2]], game=int(words[1]), now=now) if words[2] in queries else None
 
 
 @contextlib.contextmanager

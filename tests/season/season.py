@@ -50,7 +50,7 @@ DAMAGES = (("UPDATE members SET name = 'A b' WHERE id = 1", "members"),
            ("UPDATE challenges SET state = 3 WHERE state = 0", "challenges"),
            ("UPDATE games SET left2 = left2 + 1 WHERE id = 1", "games"),
            ("UPDATE meta SET last = 5", "meta"), ("UPDATE keys SET number = 3 WHERE number = 2", "keys"),
-           ("UPDATE closings SET event = 9", "closings"))
+           ("UPDATE closings SET event = 9", "closings"), ("UPDATE rulings SET kind = 4", "rulings"))
 # What is raised if the program ends, does not reply, or prints what cannot be read.
 FAILURES = OSError, RuntimeError, ValueError, LookupError, AssertionError, subprocess.SubprocessError, sqlite3.Error
 
@@ -117,6 +117,23 @@ class Season:
     def close(self, now, event):
         self.club.close_event(event, now)
         self.order(now, ["close", event], "accepted closed")
+
+    def rule(self, now, game, ruling):
+        number = self.club.rule(game.number, ruling, now)
+        words = ["rule", str(game.number), str(number), *ruling.split()]
+        self.order(now, words, f"accepted ruling {number}")
+        check(f"`{' '.join(words)}` again changes nothing", (0, f"repeated ruling {number}\n", ""), self.give(now, words))
+
+    def rule_many(self, now, words, rulings):
+        """A word that rules many games, whose rulings are these; `--dry` prints them and changes nothing."""
+        numbers = [len(game.rulings) + 1 + sum(it is game for it, _ in rulings[:at]) for at, (game, _) in enumerate(rulings)]
+        lines = [f"rule {game.number} {number} {ruling}\n" for (game, ruling), number in zip(rulings, numbers)]
+        dry = [words[0], "--dry", *words[1:]]
+        check(f"`{' '.join(dry)}` prints the rulings", (0, "".join(lines), ""), self.give(now, dry))
+        printed = "\n".join(f"{at} accepted ruling {number}" for at, number in enumerate(numbers, 1))
+        for game, ruling in rulings:
+            self.club.rule(game.number, ruling, now)
+        self.order(now, words, printed)
 
     def add_event(self, now, *event):
         self.club.add_event(*event, now)
@@ -221,6 +238,7 @@ class Season:
         for game in self.club.games:
             yield self.chance.choice([*self.club.keys]), f"/games/{game.number}/clock"
             yield self.chance.choice([*self.club.keys]), f"/games/{game.number}/record"
+            yield self.chance.choice([*self.club.keys]), f"/games/{game.number}/rulings"
 
     def look(self, stage, now, lists=None):
         """Asks all there is to ask at a moment."""
@@ -243,7 +261,7 @@ class Season:
         asked = [*self.paths()]
         expected = {it: self.club.replied(*it, now) for it in asked}
         got = {it: self.ask(port, self.club.keys[it[0]], "GET", it[1]) for it in asked}
-        for kind in ("me", "me/ended", "me/events", "games", "standings", "table", "clock", "record"):
+        for kind in ("me", "me/ended", "me/events", "games", "standings", "table", "clock", "record", "rulings"):
             some = [it for it in asked if it[1].endswith(f"/{kind}")]
             compare(f"{stage}, /{kind} is that of the model",
                     {it: expected[it] for it in some}, {it: got[it] for it in some})
@@ -407,6 +425,33 @@ def arbitrated(season):
     season.seat(now + 3, "late.1", "slow.shogi", "anna", "bert")
     season.look("after a game was seated in the closed event", now + 3)
     season.order(now + 3, ["verify"], "sound")
+
+
+def ruled(season):
+    """The arbiter gives time, awards a game that was lost on time, and voids games; a member leaves an event."""
+    now = START + 140000
+    lost, other = (it for it in season.club.games if it.event.name == "blitz")
+    running, mistaken = [it for it in season.club.games[4:9] if not it.end][:2]
+    season.rule(now, running, f"grant second {3 * 86400}")
+    season.rule(now, lost, "award 1-1")
+    season.rule(now, other, "void")
+    season.rule(now, mistaken, "void")
+    season.look("after rulings", now, [["rulings", str(it.number)] for it in (running, lost, other, mistaken)])
+    refused = ["rule", str(other.number), "2", "grant", "first", "60"]
+    check("no time is given after a game has ended", (1, "", "refused 56 GameOver\n"), season.give(now, refused))
+    season.rule(now + 1, other, "award 2-0")
+    left = [it for it in season.club.games if it.event.name == "fuji" and not it.end and "cara" in it.players]
+    season.rule_many(now + 2, ["retire", "cara", "fuji", "loss"],
+                     [(it, f"award {('0-2', '2-0')[it.players.index('cara')]}") for it in left])
+    slow = [it for it in season.club.games if it.event.name == "slow.shogi" and not it.end]
+    season.rule_many(now + 3, ["extend", "slow.shogi", "172800"],
+                     [(it, f"grant {side} 172800") for it in slow for side in ("first", "second")])
+    season.look("after a member left and two days were given", now + 4)
+    with season.server(now + 5) as port:
+        season.play(port, now + 5, running)
+        season.play(port, now + 5, slow[0])
+    season.look("after moves in games with rulings", now + 5)
+    season.order(now + 5, ["verify"], "sound")
 
 
 def swept(season):
@@ -595,8 +640,8 @@ def gone_through(parts):
 
 
 def main():
-    gone_through((opened, seated, in_blitz, rounds, challenged, offered, brought_in, arbitrated, analysed, swept,
-                  refused, faulty))
+    gone_through((opened, seated, in_blitz, rounds, challenged, offered, brought_in, arbitrated, analysed, ruled,
+                  swept, refused, faulty))
     gone_through((calendar,))
     return exit_status()
 

@@ -353,6 +353,23 @@ def challenge_closed(calls):
         calls.call("answerChallenge", key="bert", body={"accept": False}, member="anna", number=1)
 
 
+def ask_rulings(calls):
+    """Rulings of each kind, and the games that they ended."""
+    members = [f"member {it} {KEYS[it]}" for it in ("anna", "bert")]
+    seats = [f"seat g{it} autumn anna bert" for it in (1, 2, 3)]
+    rulings = ("rule 1 1 grant first 60", "rule 1 2 grant second 60", "rule 2 1 award 1-1", "rule 3 1 void")
+    for words in ("init --arbiter", *members, f"event autumn draughts {BUDGET} 5", *seats, *rulings):
+        club("ruled.db", *words.split())
+    with serve("ruled.db", now=NOW) as calls.server:
+        for number in (1, 2, 3):
+            for name in ("listRulings", "getGame", "getGamePage", "getClock", "getRecord"):
+                calls.call(name, id=number)
+        calls.call("listRulings", 53, id=4)
+        calls.call("listEndedGames")
+        for name in ("getTable", "listEventGames", "getStandings"):
+            calls.call(name, name="autumn")
+
+
 def fill(file):
     """Makes a club of 5,000 games with one open challenge."""
     create(file)
@@ -404,6 +421,7 @@ def call_all(description):
         calls.call("getMe")
         calls.call("getClock", id=printed.split()[-1])
     challenge_closed(calls)
+    ask_rulings(calls)
     fill("full.db")
     with serve("full.db", now=1000) as calls.server:
         calls.call("answerChallenge", 66, "bert", {"accept": True}, member="anna", number=1)

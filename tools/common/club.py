@@ -10,7 +10,7 @@ from dataclasses import dataclass
 NAME = r"[A-Za-z0-9._-]{1,24}"
 GAME = re.compile(rf"game (?P<id>[0-9]{{1,9}}) (?P<event>{NAME}) (?P<first>{NAME}) (?P<second>{NAME}) "
                   rf"(?P<key>{NAME}|=) ply (?P<ply>[0-9]{{1,3}}) (?:turn (?P<turn>{NAME}) until (?P<until>never|[0-9TZ:-]{{20}})"
-                  rf"|end (?P<end>[A-Za-z]+) (?P<result>2-0|1-1|0-2))")
+                  rf"|end (?P<end>[A-Za-z]+)(?: (?P<result>2-0|1-1|0-2))?)")
 EVENT = re.compile(rf"event [0-9]+ (?P<name>{NAME}) (?P<kind>draughts|shogi) (?P<budget>[0-9]+) (?P<increment>[0-9]+)"
                    r" [0-9]+ [0-9]+(?: closed)?")
 WAIT = 120  # seconds in which the program must end
@@ -32,13 +32,19 @@ class Event:
 
 
 class Game:
-    """A game: its players, and either whose turn it is until when, or how it ended."""
+    """A game: its players, and either whose turn it is until when, or how it ended. A void game has a dash as its result."""
 
     def __init__(self, event, first, second, **more):
         self.event, self.first, self.second = event, first, second
         self.id, self.ply, self.key = int(more["id"]), int(more["ply"]), more["key"]
-        self.turn, self.end, self.result = more["turn"], more["end"], more["result"]
+        self.turn, self.end = more["turn"], more["end"]
+        self.result = more["result"] or ("–" if self.end else None)
         self.deadline = seconds_of(more["until"])
+
+    @property
+    def counts(self):
+        """Whether the game has a result."""
+        return self.end not in (None, "Void")
 
     @property
     def players(self):

@@ -26,7 +26,7 @@ _club() {
     elif [[ ! $file ]]; then
         _club_files
     elif [[ ! $command ]]; then
-        mapfile -t COMPREPLY < <(compgen -W 'init member event seat import-pdn import-csa move sweep batch round-robin key close legal show export export-event table members events games challenges verify upgrade backup serve' -- "$current")
+        mapfile -t COMPREPLY < <(compgen -W 'init member event seat import-pdn import-csa move sweep batch round-robin rule retire extend rulings key close legal show export export-event table members events games challenges verify upgrade backup serve' -- "$current")
     elif [[ ${arguments[count]-} == file ]]; then
         _club_files
     elif [[ ${arguments[count]--} != - ]]; then
@@ -46,6 +46,10 @@ _club_command() { # COMMAND: sets its options and the kinds of its arguments
         sweep) options='--most -h --help' valued='--most' arguments=() ;;
         batch) options='-h --help' valued='' arguments=('file') ;;
         round-robin) options='--double --dry -h --help' valued='' arguments=('-' '-' '-') ;;
+        rule) options='-h --help' valued='' arguments=('-' '-' '-') ;;
+        retire) options='--dry -h --help' valued='' arguments=('-' '-' '-') ;;
+        extend) options='--dry -h --help' valued='' arguments=('-' '-') ;;
+        rulings) options='-h --help' valued='' arguments=('-') ;;
         key) options='-h --help' valued='' arguments=('-' '-' '-') ;;
         close) options='-h --help' valued='' arguments=('-') ;;
         legal) options='-h --help' valued='' arguments=('-') ;;

@@ -93,6 +93,9 @@ TEXTS = {
     "Time": ("on time", "Zeitüberschreitung", "tijdsoverschrijding", "時間切れ", "temps dépassé"),
     "Declared": (
         "by declaration of the entered king", "Königseintritt", "koningsintrede", "入玉宣言", "entrée du roi"),
+    "Void": (
+        "the game does not count", "die Partie zählt nicht", "de partij telt niet", "無効", "la partie ne compte pas"),
+    "Awarded": ("by the arbiter", "Entscheidung des Schiedsrichters", "door de arbiter", "裁定", "décision de l’arbitre"),
     "Recorded": ("as recorded", "laut Notation", "volgens notatie", "棋譜による", "selon la notation"),
 }
 

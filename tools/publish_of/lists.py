@@ -73,6 +73,8 @@ def cross_table(event):
     """The members with an ended game, with a link for each pair that has one ended game."""
     pairs = {}
     for it in event.ended:
+        if not it.game.counts:
+            continue
         pairs.setdefault(frozenset(it.game.players), []).append(it.game)
     rows = []
     for number, row in enumerate(event.table, 1):

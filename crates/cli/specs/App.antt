@@ -123,6 +123,35 @@ key_app =
     (required_as a_number (codes "NUMBER")))
     (required (codes "KEY"))
 
+-- arguments of `rule`; a ruling has 1 to 3 words
+abbrev pub rule_app : App
+rule_app =
+    with_rule
+    (with_rule
+    (with_rule (new_app (codes "rule")) (required_as a_number (codes "GAME")))
+    (required_as a_number (codes "NUMBER")))
+    (required_times 1 3 (codes "RULING"))
+
+-- subcommand with the flag `--dry`
+abbrev pub dry_app : Text → App
+dry_app name = with_rule (new_app name) (flag (codes "DRY") (codes "dry"))
+
+-- arguments and flag of `retire`
+abbrev pub retire_app : App
+retire_app =
+    with_rule
+    (with_rule
+    (with_rule (dry_app (codes "retire")) (required (codes "NAME")))
+    (required (codes "EVENT")))
+    (required (codes "RESULT"))
+
+-- arguments and flag of `extend`
+abbrev pub extend_app : App
+extend_app =
+    with_rule
+    (with_rule (dry_app (codes "extend")) (required (codes "EVENT")))
+    (required_as a_number (codes "SECONDS"))
+
 -- subcommand with a GAME argument only
 abbrev pub of_game_app : Text → App
 of_game_app name = with_rule (new_app name) (required_as a_number (codes "GAME"))
@@ -235,7 +264,18 @@ with_orders_app app =
 
 -- adds the arbiter's subcommands
 abbrev pub with_arbiter_app : App → App
-with_arbiter_app app = with_sub (with_sub app key_app) (of_event_app (codes "close"))
+with_arbiter_app app =
+    with_sub
+    (with_sub
+    (with_sub
+    (with_sub
+    (with_sub
+    (with_sub app rule_app)
+    retire_app)
+    extend_app)
+    (of_game_app (codes "rulings")))
+    key_app)
+    (of_event_app (codes "close"))
 
 -- adds the subcommands that show games
 abbrev pub with_games_app : App → App

@@ -16,15 +16,20 @@ use Rattle.club_requests.specs.declared.requests.GameCommand.TheVariants.{Move}
 use Rattle.club_requests.specs.declared.requests.Import.{Import}
 use Rattle.club_requests.specs.declared.requests.Command.{Command}
 use Rattle.club_requests.specs.declared.requests.Command.TheVariants.{AddMember, AddEvent, Seat, OnGame, Sweep}
-use Rattle.club_requests.specs.declared.requests.Command.TheVariants.{Import as ImportOf, NewKey, CloseEvent}
+use Rattle.club_requests.specs.declared.requests.Command.TheVariants.{Import as ImportOf, NewKey, CloseEvent, Rule}
+use Rattle.club_requests.specs.Rulings.{IsRulingIn}
+use Rattle.club_requests.specs.declared.rulings.Ruling.{Ruling}
 use Rattle.cli.specs.declared.words.Task.{Task}
+use Rattle.club_requests.specs.declared.questions.BulkRuling.{BulkRuling}
+use Rattle.club_requests.specs.declared.questions.BulkRuling.TheVariants.{Retire, Extend}
 use Rattle.club_requests.specs.declared.questions.Listing.{Listing}
 use Rattle.club_requests.specs.declared.questions.Question.{Question}
 use Rattle.club_requests.specs.declared.questions.Question.TheVariants.{LegalMoves, CrossTable, Record, Members}
 use Rattle.club_requests.specs.declared.questions.Question.TheVariants.{Events, Games, Board, Challenges}
 use Rattle.club_requests.specs.declared.questions.Question.TheVariants.{EventRecords, GamePage, LegalMovesJson}
 use Rattle.club_requests.specs.declared.questions.Question.TheVariants.{MembersJson, EventsJson, GamesJson}
-use Rattle.club_requests.specs.declared.questions.Question.TheVariants.{ChallengesJson}
+use Rattle.club_requests.specs.declared.questions.Question.TheVariants.{ChallengesJson, Rulings, RulingsJson}
+use Rattle.club_requests.specs.declared.questions.Question.TheVariants.{RulingOrders}
 use Rattle.club_requests.specs.declared.questions.GameFilter.{GameFilter}
 use Rattle.club_requests.specs.declared.questions.GameFilter.TheVariants.{All, Running, Overdue}
 use Rattle.cli.specs.declared.words.Task.TheVariants.{Init, Request, SweepAtMost, Ask, Upgrade, Verify, Backup, Batch}
@@ -116,6 +121,8 @@ AsksCommand name found (ImportOf c) = AsksGiven name found c
 AsksCommand name found (OnGame c) = (name ≡ codes "move") × IsNumberIn found (codes "GAME") 0 c.game
     × AsksMove found c.command
 AsksCommand name found Sweep = name ≡ codes "sweep"
+AsksCommand name found (Rule c) = (name ≡ codes "rule") × IsNumberIn found (codes "GAME") 0 c.game
+    × IsNumberIn found (codes "NUMBER") 0 c.number × IsRulingIn (texts_in found (codes "RULING")) c.ruling
 AsksCommand name found (NewKey c) = (name ≡ codes "key")
     × (string_bytes c.name ≡ text_in found (codes "NAME")) × IsNumberIn found (codes "NUMBER") 0 c.number
     × (string_bytes c.key ≡ text_in found (codes "KEY"))
@@ -144,6 +151,19 @@ pub record AreListed (found : Found) (listing : Listing) : Type 0 where
   pub member : option_map string_bytes listing.member ≡ first_value found (codes "MEMBER")
   pub which : AreShownOf found listing.which
 
+-- RESULT is `loss`, or `void`
+abbrev pub IsLossIn : Found → Bool → Type 0
+IsLossIn found true = text_in found (codes "RESULT") ≡ codes "loss"
+IsLossIn found false = text_in found (codes "RESULT") ≡ codes "void"
+
+-- the subcommand with these arguments gives these rulings
+abbrev pub AsksRulings : List ℕ → Found → BulkRuling → Type 0
+AsksRulings name found (Retire member event is_loss) = (name ≡ codes "retire")
+    × (string_bytes member ≡ text_in found (codes "NAME")) × (string_bytes event ≡ text_in found (codes "EVENT"))
+    × IsLossIn found is_loss
+AsksRulings name found (Extend event seconds) = (name ≡ codes "extend")
+    × (string_bytes event ≡ text_in found (codes "EVENT")) × IsNumberIn found (codes "SECONDS") 0 seconds
+
 -- the subcommand with these arguments is this query; without `--json` the command line has no other queries
 abbrev pub AsksQuestion : List ℕ → Found → Question → Type 0
 AsksQuestion name found (LegalMoves game) = (name ≡ codes "legal") × IsNumberIn found (codes "GAME") 0 game
@@ -158,12 +178,15 @@ AsksQuestion name found (Board game letters) = (name ≡ codes "show") × IsNumb
     × IsFlagIn found (codes "LETTERS") letters
 AsksQuestion name found (EventRecords event) = (name ≡ codes "export-event")
     × (string_bytes event ≡ text_in found (codes "EVENT"))
+AsksQuestion name found (Rulings game) = (name ≡ codes "rulings") × IsNumberIn found (codes "GAME") 0 game
+AsksQuestion name found (RulingOrders rulings) = AsksRulings name found rulings
 AsksQuestion name found _ = ⊥
 
 -- with `--json` the subcommand with these arguments is this query
 abbrev pub AsksJsonQuestion : List ℕ → Found → Question → Type 0
 AsksJsonQuestion name found (LegalMovesJson game) = (name ≡ codes "legal") × IsNumberIn found (codes "GAME") 0 game
 AsksJsonQuestion name found (GamePage game) = (name ≡ codes "show") × IsNumberIn found (codes "GAME") 0 game
+AsksJsonQuestion name found (RulingsJson game) = (name ≡ codes "rulings") × IsNumberIn found (codes "GAME") 0 game
 AsksJsonQuestion name found MembersJson = name ≡ codes "members"
 AsksJsonQuestion name found EventsJson = name ≡ codes "events"
 AsksJsonQuestion name found (GamesJson listing) = (name ≡ codes "games") × AreListed found listing
@@ -242,10 +265,18 @@ pub record AsksRoundRobin (all found : Found) (given : RoundRobin) : Type 0 wher
   pub names : map string_bytes given.names.items ≡ texts_in found (codes "NAME")
   pub explains : IsFlagIn all (codes "EXPLAIN") given.explains
 
+-- names of the subcommands that give rulings on many games, or print them with `--dry`
+abbrev pub IsBulk : List ℕ → Type 0
+IsBulk name = (name ≡ codes "retire") ⊎ (name ≡ codes "extend")
+
 -- the command line states this, by its subcommand and by whether `--json` is given
 abbrev pub AsksBy : (is_json : Bool) → Found → List ℕ → Found → Invocation → Type 0
-AsksBy is_json all name found (words.Order order) = AsksOrder is_json all name found order
+AsksBy true all name found (words.Order order) = AsksOrder true all name found order
 AsksBy true all name found _ = ⊥
+AsksBy false all name found (words.Order order) = AsksOrder false all name found order
+    × (IsBulk name → IsFlagIn found (codes "DRY") true)
+AsksBy false all name found (words.BulkRuling order) = AsksOrder false all name found order
+    × IsBulk name × IsFlagIn found (codes "DRY") false
 AsksBy false all name found (words.Serve service) = (name ≡ codes "serve") × AsksService all found service
 AsksBy false all name found (words.Batch batch) = (name ≡ codes "batch") × AsksBatch all found batch
 AsksBy false all name found (words.RoundRobin games) = (name ≡ codes "round-robin") × AsksRoundRobin all found games
@@ -266,19 +297,20 @@ IsOther names name = list_any (bytes_eq name) names ≡ false
 abbrev pub command_names : List (List ℕ)
 command_names =
     codes "member" ∷ codes "event" ∷ codes "seat" ∷ codes "sweep" ∷ codes "import-pdn" ∷ codes "import-csa"
-    ∷ codes "move" ∷ codes "key" ∷ codes "close" ∷ []
+    ∷ codes "move" ∷ codes "rule" ∷ codes "key" ∷ codes "close" ∷ []
 
 -- names of the other operations
 abbrev pub task_names : List (List ℕ)
 task_names =
     codes "init" ∷ codes "legal" ∷ codes "export" ∷ codes "show" ∷ codes "export-event" ∷ codes "table"
     ∷ codes "members" ∷ codes "events" ∷ codes "games" ∷ codes "challenges" ∷ codes "verify" ∷ codes "upgrade"
-    ∷ codes "backup" ∷ []
+    ∷ codes "backup" ∷ codes "rulings" ∷ codes "retire" ∷ codes "extend" ∷ []
 
 -- names of the operations whose answers are JSON with `--json`
 abbrev pub json_names : List (List ℕ)
 json_names =
-    codes "legal" ∷ codes "show" ∷ codes "members" ∷ codes "events" ∷ codes "games" ∷ codes "challenges" ∷ []
+    codes "legal" ∷ codes "show" ∷ codes "rulings" ∷ codes "members" ∷ codes "events" ∷ codes "games"
+    ∷ codes "challenges" ∷ []
 
 -- names of the subcommands that are not a single operation
 abbrev pub other_names : List (List ℕ)
@@ -287,6 +319,14 @@ other_names = codes "serve" ∷ codes "batch" ∷ codes "round-robin" ∷ []
 -- GAME is not the name of a game
 abbrev pub HasNoGame : Found → Type 0
 HasNoGame found = (game : GameKind) → first_value found (codes "GAME") ≢ Some (game_word game)
+
+-- RULING is no ruling
+abbrev pub HasNoRuling : Found → Type 0
+HasNoRuling found = (ruling : Ruling) → ¬ (IsRulingIn (texts_in found (codes "RULING")) ruling)
+
+-- RESULT is neither `loss` nor `void`
+abbrev pub HasNoResult : Found → Type 0
+HasNoResult found = (is_loss : Bool) → ¬ (IsLossIn found is_loss)
 
 -- both `--running` and `--overdue` are given
 abbrev pub AsksForBoth : Found → Type 0
@@ -315,11 +355,12 @@ HasNoService found = HasNoPort found ⊎ HasBadHost found
 -- the subcommand is no valid command to the club
 abbrev pub HasNoCommand : List ℕ → Found → Type 0
 HasNoCommand name found = IsOther command_names name ⊎ ((name ≡ codes "event") × HasNoGame found)
+    ⊎ ((name ≡ codes "rule") × HasNoRuling found)
 
 -- the subcommand is no valid single operation
 abbrev pub HasNoTask : List ℕ → Found → Type 0
 HasNoTask name found = (IsOther task_names name × HasNoCommand name found)
-    ⊎ ((name ≡ codes "games") × AsksForBoth found)
+    ⊎ ((name ≡ codes "games") × AsksForBoth found) ⊎ ((name ≡ codes "retire") × HasNoResult found)
 
 -- the subcommand is no operation whose answer is JSON with `--json`
 abbrev pub HasNoJsonTask : List ℕ → Found → Type 0
@@ -332,7 +373,7 @@ HasNoOrderBy false name found = (IsOther other_names name × HasNoTask name foun
     ⊎ ((name ≡ codes "serve") × HasNoService found)
 
 -- The arguments that the parser found are not valid. The grammar excludes all cases but `--json` with another
--- subcommand, the two exclusive flags and the host names.
+-- subcommand, the two exclusive flags, the host names, the words of a ruling and the result of a member who leaves.
 pub record HasNoOrder (all : Found) (name : List ℕ) (found : Found) : Type 0 where
   pub is_json : Bool
   pub json : IsFlagIn all (codes "JSON") is_json

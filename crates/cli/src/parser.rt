@@ -4,8 +4,8 @@ ghost use Rattle.std.specs.Prelude.{IfOk, codes};
 ghost use Rattle.clap.specs.Words.{App, new_app};
 ghost use Rattle.clap.specs.declared.builder.value_parser.ValueParser.TheVariants as kind;
 ghost use Rattle.cli.specs.App.{Names, a_moment, a_port, are_games, backup_app, batch_app, by_arbiter_app, club_app};
-ghost use Rattle.cli.specs.App.{event_app, game_app, games_app, given_as, import_app, import_csa_app, key_app};
-ghost use Rattle.cli.specs.App.{member_app};
+ghost use Rattle.cli.specs.App.{dry_app, event_app, extend_app, game_app, games_app, given_as, import_app};
+ghost use Rattle.cli.specs.App.{import_csa_app, key_app, member_app, retire_app, rule_app};
 ghost use Rattle.cli.specs.internal.App.{line_app};
 ghost use Rattle.cli.specs.App.{move_app, named_app, of_event_app, of_game_app, program_app};
 ghost use Rattle.cli.specs.internal.App.{named_line_app};
@@ -32,6 +32,8 @@ const A_LABEL: &str =
     the same order again, with the same label, is a repeat and makes no second game";
 
 const A_GAME: &str = "The game's number, as 'seat' printed it";
+
+const AN_EVENT: &str = "The event's name";
 
 fn member_words<'a>(alloc: Global) -> Result<clap::Command<'a>, AllocError>
     ensures { IfOk result (IsApp member_app) }
@@ -98,7 +100,7 @@ fn new_game_words<'a>(
 {
     let words = subcommand(alloc, name, about);
     let words = with_word(words, word(alloc, "KEY", A_LABEL))?;
-    let words = with_word(words, word(alloc, "EVENT", "The event's name"))?;
+    let words = with_word(words, word(alloc, "EVENT", AN_EVENT))?;
     let words = with_word(words, word(alloc, "FIRST", first))?;
     with_word(words, word(alloc, "SECOND", "The other member"))
 }
@@ -186,6 +188,97 @@ fn move_words<'a>(alloc: Global) -> Result<clap::Command<'a>, AllocError>
             alloc,
             "TEXT",
             "The move: in draughts 32-28, or 28x19 for a capture; in shogi 7g7f, 8h2b+ or P*5e",
+        ),
+    )
+}
+
+// The words of a ruling: 1 to 3.
+fn ruling_word<'a>(alloc: Global) -> Arg<'a>
+    ensures { IsRule (required_times 1 3 (codes "RULING")) result }
+{
+    word(
+        alloc,
+        "RULING",
+        "'grant first SECONDS', 'grant second SECONDS', 'award 2-0', 'award 1-1', 'award 0-2' or 'void'",
+    )
+    .num_args(1..=3)
+}
+
+fn rule_words<'a>(alloc: Global) -> Result<clap::Command<'a>, AllocError>
+    ensures { IfOk result (IsApp rule_app) }
+{
+    let words = subcommand(
+        alloc,
+        "rule",
+        "Rules on a game as its arbiter: more time for a side, an end with a score, or a game that does not count",
+    );
+    let words = with_word(words, number(alloc, "GAME", A_GAME))?;
+    let words = with_word(
+        words,
+        number(
+            alloc,
+            "NUMBER",
+            "Which ruling on the game it is: 1 for the first; the same order again is a repeat",
+        ),
+    )?;
+    with_word(words, ruling_word(alloc))
+}
+
+// A subcommand that gives many rulings, with its flag.
+fn dry_words<'a>(
+    alloc: Global,
+    name: &'a str,
+    about: &'a str,
+) -> Result<clap::Command<'a>, AllocError>
+    ensures { IfOk result (IsApp (dry_app name.entry.now)) }
+{
+    let words = subcommand(alloc, name, about);
+    with_word(
+        words,
+        flag(
+            alloc,
+            "DRY",
+            "dry",
+            "Prints the rulings as lines that 'batch' takes, and gives none",
+        ),
+    )
+}
+
+fn retire_words<'a>(alloc: Global) -> Result<clap::Command<'a>, AllocError>
+    ensures { IfOk result (IsApp retire_app) }
+{
+    let words = dry_words(
+        alloc,
+        "retire",
+        "Rules on all running games of a member in an event: they are void, or awarded to the opponents",
+    )?;
+    let words = with_word(words, word(alloc, "NAME", "The member's name"))?;
+    let words = with_word(words, word(alloc, "EVENT", AN_EVENT))?;
+    with_word(
+        words,
+        word(
+            alloc,
+            "RESULT",
+            "'void' for games that do not count, 'loss' for games that the member loses",
+        ),
+    )
+}
+
+fn extend_words<'a>(alloc: Global) -> Result<clap::Command<'a>, AllocError>
+    ensures { IfOk result (IsApp extend_app) }
+{
+    let words = dry_words(
+        alloc,
+        "extend",
+        "Grants more time to both sides of all running games of an event; given twice it grants twice",
+    )?;
+    let words = with_word(words, word(alloc, "EVENT", AN_EVENT))?;
+    with_word(
+        words,
+        number(
+            alloc,
+            "SECONDS",
+            "Seconds more for each side: 1 to 31536000, as 86400 for a day",
         ),
     )
 }
@@ -286,7 +379,7 @@ fn of_event_words<'a>(
     ensures { IfOk result (IsApp (of_event_app name.entry.now)) }
 {
     let words = subcommand(alloc, name, about);
-    with_word(words, word(alloc, "EVENT", "The event's name"))
+    with_word(words, word(alloc, "EVENT", AN_EVENT))
 }
 
 fn show_words<'a>(alloc: Global) -> Result<clap::Command<'a>, AllocError>
@@ -316,7 +409,7 @@ fn batch_words<'a>(alloc: Global) -> Result<clap::Command<'a>, AllocError>
         alloc,
         "batch",
         "Gives the club many orders in turn, each a line as behind FILE: member, event, seat, move, sweep, \
-         import-pdn, import-csa, key, close",
+         import-pdn, import-csa, rule, key, close",
     );
     with_word(
         words,
@@ -379,7 +472,7 @@ fn round_robin_words<'a>(alloc: Global) -> Result<clap::Command<'a>, AllocError>
             "What the keys begin with: board 3 of round 1 is seated under PREFIX1.3",
         ),
     )?;
-    let words = with_word(words, word(alloc, "EVENT", "The event's name"))?;
+    let words = with_word(words, word(alloc, "EVENT", AN_EVENT))?;
     with_word(words, names_word(alloc))
 }
 
@@ -526,7 +619,7 @@ fn program<'a>(alloc: Global) -> Result<clap::Command<'a>, AllocError>
             alloc,
             "JSON",
             "json",
-            "Prints the answer of legal, show, members, events, games or challenges as one JSON document",
+            "Prints the answer of legal, show, rulings, members, events, games or challenges as one JSON document",
         ),
     )?;
     let words = with_word(words, now_option(alloc))?;
@@ -551,7 +644,7 @@ fn with_entries<'a>(
         alloc,
         "init",
         "Makes the tables of a club in an empty file",
-        "Makes a club of schema 3, which takes the arbiter's orders: key and close",
+        "Makes a club of schema 3, which takes the arbiter's orders: rule, retire, extend, key and close",
     );
     let program = add_subcommand(program, init)?;
     let program = add_subcommand(program, member_words(alloc))?;
@@ -582,6 +675,15 @@ fn with_arbiter<'a>(
 ) -> Result<clap::Command<'a>, AllocError>
     ensures { (app : App) → IsApp app program.entry → IfOk result (IsApp (with_arbiter_app app)) }
 {
+    let program = add_subcommand(program, rule_words(alloc))?;
+    let program = add_subcommand(program, retire_words(alloc))?;
+    let program = add_subcommand(program, extend_words(alloc))?;
+    let rulings = of_game_words(
+        alloc,
+        "rulings",
+        "Lists the rulings on a game, a line each: when it was given, after how many plies, and what it is",
+    );
+    let program = add_subcommand(program, rulings)?;
     let program = add_subcommand(program, key_words(alloc))?;
     add_subcommand(program, close_words(alloc))
 }
@@ -665,7 +767,8 @@ fn with_files<'a>(
         alloc,
         "upgrade",
         "Carries a file of schema 1 over to schema 2, which has the rules of events; copy both files first",
-        "Carries a file of schema 1 or 2 over to schema 3, which takes the arbiter's orders: key and close",
+        "Carries a file of schema 1 or 2 over to schema 3, which takes the arbiter's orders: rule, retire, extend, \
+         key and close",
     );
     let program = add_subcommand(program, upgrade)?;
     let program = add_subcommand(program, backup_words(alloc))?;
@@ -712,6 +815,7 @@ pub(crate) fn line_words<'a>(alloc: Global) -> Result<clap::Command<'a>, AllocEr
     let words = add_subcommand(words, Ok(sweep_words(alloc)))?;
     let words = add_subcommand(words, import_pdn_words(alloc))?;
     let words = add_subcommand(words, import_csa_words(alloc))?;
+    let words = add_subcommand(words, rule_words(alloc))?;
     let words = add_subcommand(words, key_words(alloc))?;
     add_subcommand(words, close_words(alloc))
 }

@@ -1,15 +1,18 @@
 //! Parsing of the program's command line.
 
 ghost use Rattle.std.specs.Prelude.{◌≡◌, ◌≢◌, IfErr, IfNone, IfOk, IfSome, Some, codes, map, option_map, string_bytes};
-ghost use Rattle.std.specs.Prelude.{true, false};
+ghost use Rattle.std.specs.Prelude.{ℕ, List, true, false};
 ghost use Rattle.clap.specs.Words.{first_value, found_of, kind_of};
+ghost use Rattle.clap.specs.declared.parser.matches.Found.{Found};
 ghost use Rattle.cli.specs.Asked.{Asks, AsksBy, AsksCommand, AsksImport, AsksJsonTask, AsksQuestion, AsksService};
 ghost use Rattle.cli.specs.Asked.{AsksTask, AsksTaskBy, HasNoJsonTask, HasNoOrderBy};
 ghost use Rattle.cli.specs.Asked.{AreListed, AreShownOf, IsFlagIn, IsMomentIn, IsNumberIn, game_word};
 ghost use Rattle.cli.specs.Asked.{AsksForBoth, HasNoCommand, HasNoGame, HasNoOrder, HasNoService, HasNoTask};
-ghost use Rattle.cli.specs.Asked.{AsksOrder, key_source, record_word, text_in, which_of};
+ghost use Rattle.cli.specs.Asked.{AsksOrder, AsksRulings, HasNoResult, HasNoRuling, IsBulk, IsLossIn};
+ghost use Rattle.cli.specs.Asked.{key_source, record_word, text_in, texts_in, which_of};
 ghost use Rattle.cli.specs.internal.Asked.{HasNoTaskBy, IsTold, IsParserErrorFor};
 ghost use Rattle.cli.specs.internal.Inputs.{IsTaskWith};
+ghost use Rattle.club_requests.specs.Rulings.{IsRulingIn};
 ghost use Rattle.cli.specs.Said.{AreRefused, StatesInvocation};
 ghost use Rattle.cli.specs.internal.Said.{FindsNone, IsFound, IsParserErrorOf};
 
@@ -21,8 +24,8 @@ use clap::ArgMatches;
 use clap::error::ErrorKind;
 use clocks::Moment;
 use club_requests::{
-    AddEvent, AddMember, CloseEvent, Command, GameCommand, GameFilter, Import, Listing, NewKey,
-    OnGame, Question, Seat,
+    AddEvent, AddMember, BulkRuling, CloseEvent, Command, GameCommand, GameFilter, Import, Listing,
+    NewKey, OnGame, Question, Rule, Ruling, Seat,
 };
 use club_rules::{GameKind, RecordFormat};
 use std::alloc::{AllocError, Global};
@@ -103,6 +106,8 @@ pub enum Invocation {
     Serve(ServeOptions),
     Batch(BatchOptions),
     RoundRobin(RoundRobin),
+    /// Rulings on many games: the answer to the query of this order is to be executed as a batch.
+    BulkRuling(Order),
 }
 
 /// The reason why a command line or a batch line gives nothing to execute.
@@ -249,6 +254,42 @@ fn key_of(alloc: Global, words: &ArgMatches<'_>) -> Result<Command, AllocError>
     }))
 }
 
+// The ruling that the arguments state.
+fn ruling_of(words: &ArgMatches<'_>) -> Option<Ruling>
+    ensures some { IfSome result (IsRulingIn (texts_in (found_of words.now) (codes "RULING"))) }
+    ensures none { IfNone result (HasNoRuling (found_of words.now)) }
+{
+    match words.get_strs("RULING") {
+        Some(given) => Ruling::parse(given),
+        None => Ruling::parse(&[]),
+    }
+}
+
+// The error for words that are no ruling.
+fn no_ruling(alloc: Global) -> BadWords
+    ensures { IsTold result }
+{
+    error_message(
+        alloc,
+        "error: a ruling is 'grant first SECONDS', 'grant second SECONDS', 'award 2-0', 'award 1-1', 'award 0-2' \
+         or 'void'\n",
+    )
+}
+
+fn rule_of(alloc: Global, words: &ArgMatches<'_>) -> Result<Command, BadWords>
+    ensures ok { IfOk result (AsksCommand (codes "rule") (found_of words.now)) }
+    ensures err { IfErr result (IsParserErrorFor (HasNoRuling (found_of words.now))) }
+{
+    let Some(ruling) = ruling_of(words) else {
+        return Err(no_ruling(alloc));
+    };
+    Ok(Command::Rule(Rule {
+        game: number_of(words, "GAME"),
+        number: number_of(words, "NUMBER"),
+        ruling,
+    }))
+}
+
 fn close_of(alloc: Global, words: &ArgMatches<'_>) -> Result<Command, AllocError>
     ensures { IfOk result (AsksCommand (codes "close") (found_of words.now)) }
 {
@@ -336,6 +377,7 @@ pub(crate) fn command_of(
         "import-pdn" => Ok(import_pdn_of(alloc, words)?),
         "import-csa" => Ok(import_csa_of(alloc, words)?),
         "move" => Ok(move_of(alloc, words)?),
+        "rule" => rule_of(alloc, words),
         "key" => Ok(key_of(alloc, words)?),
         "close" => Ok(close_of(alloc, words)?),
         _ => Err(unknown(alloc, name)),
@@ -364,15 +406,24 @@ fn which_in(words: &ArgMatches<'_>) -> Option<GameFilter>
     which_of(is_running, is_overdue)
 }
 
+// An error message.
+fn error_message(alloc: Global, message: &str) -> BadWords
+    ensures { IsTold result }
+{
+    match String::from_str(alloc, message) {
+        Ok(text) => BadWords::Text(text),
+        Err(_) => BadWords::Memory,
+    }
+}
+
 // The error for two flags that exclude each other.
 fn both_flags(alloc: Global) -> BadWords
     ensures { IsTold result }
 {
-    let said = "error: the argument '--running' cannot be used with '--overdue'\n";
-    match String::from_str(alloc, said) {
-        Ok(text) => BadWords::Text(text),
-        Err(_) => BadWords::Memory,
-    }
+    error_message(
+        alloc,
+        "error: the argument '--running' cannot be used with '--overdue'\n",
+    )
 }
 
 fn listing_of(alloc: Global, words: &ArgMatches<'_>) -> Result<Listing, BadWords>
@@ -429,6 +480,41 @@ fn games_of(alloc: Global, words: &ArgMatches<'_>) -> Result<Task, BadWords>
     }
 }
 
+// Whether a member who retires loses the games; otherwise they are void.
+fn loss_in(words: &ArgMatches<'_>) -> Option<bool>
+    ensures some { IfSome result (IsLossIn (found_of words.now)) }
+    ensures none { IfNone result (HasNoResult (found_of words.now)) }
+{
+    match words.get_str("RESULT").unwrap_or("") {
+        "loss" => Some(true),
+        "void" => Some(false),
+        _ => None,
+    }
+}
+
+fn retire_of(alloc: Global, words: &ArgMatches<'_>) -> Result<Task, BadWords>
+    ensures ok { IfOk result (AsksTask (codes "retire") (found_of words.now)) }
+    ensures err { IfErr result (IsParserErrorFor (HasNoResult (found_of words.now))) }
+{
+    let Some(is_loss) = loss_in(words) else {
+        return Err(error_message(alloc, "error: a member retires with 'void' or 'loss'\n"));
+    };
+    Ok(Task::Ask(Question::RulingOrders(BulkRuling::Retire {
+        member: text(alloc, words, "NAME")?,
+        event: text(alloc, words, "EVENT")?,
+        is_loss,
+    })))
+}
+
+fn extend_of(alloc: Global, words: &ArgMatches<'_>) -> Result<Task, AllocError>
+    ensures { IfOk result (AsksTask (codes "extend") (found_of words.now)) }
+{
+    Ok(Task::Ask(Question::RulingOrders(BulkRuling::Extend {
+        event: text(alloc, words, "EVENT")?,
+        seconds: number_of(words, "SECONDS"),
+    })))
+}
+
 // The operation of the subcommand `name`.
 fn task_of(alloc: Global, name: &str, words: &ArgMatches<'_>) -> Result<Task, BadWords>
     ensures ok { IfOk result (AsksTask name.now (found_of words.now)) }
@@ -453,6 +539,9 @@ fn task_of(alloc: Global, name: &str, words: &ArgMatches<'_>) -> Result<Task, Ba
             has_arbiter: words.get_flag("ARBITER"),
         }),
         "backup" => Ok(Task::Backup(text(alloc, words, "FILE2")?)),
+        "rulings" => Ok(Task::Ask(Question::Rulings(number_of(words, "GAME")))),
+        "retire" => retire_of(alloc, words),
+        "extend" => Ok(extend_of(alloc, words)?),
         _ => request_of(alloc, name, words),
     }
 }
@@ -485,6 +574,7 @@ fn json_task_of(alloc: Global, name: &str, words: &ArgMatches<'_>) -> Result<Tas
     match name {
         "legal" => Ok(Task::Ask(Question::LegalMovesJson(number_of(words, "GAME")))),
         "show" => Ok(Task::Ask(Question::GamePage(number_of(words, "GAME")))),
+        "rulings" => Ok(Task::Ask(Question::RulingsJson(number_of(words, "GAME")))),
         "members" => Ok(Task::Ask(Question::MembersJson)),
         "events" => Ok(Task::Ask(Question::EventsJson)),
         "games" => games_json_of(alloc, words),
@@ -655,6 +745,34 @@ fn json_of(
     }
 }
 
+// The order, or the rulings that it prints with `--dry`.
+fn order_or_rulings(words: &ArgMatches<'_>, order: Order) -> Invocation
+    ensures { (all : Found) (name : List ℕ) → AsksOrder false all name (found_of words.now) order → IsBulk name →
+        AsksBy false all name (found_of words.now) result }
+{
+    match words.get_flag("DRY") {
+        true => Invocation::Order(order),
+        false => Invocation::BulkRuling(order),
+    }
+}
+
+// An order, or many rulings.
+fn rulings_of(
+    alloc: Global,
+    all: &ArgMatches<'_>,
+    name: &str,
+    words: &ArgMatches<'_>,
+) -> Result<Invocation, BadWords>
+    ensures ok { IfOk result (λ said. IsBulk name.now →
+        AsksBy false (found_of all.now) name.now (found_of words.now) said) }
+    ensures err { IfErr result (IsParserErrorFor (HasNoTaskBy false name.now (found_of words.now))) }
+{
+    match order_of(alloc, false, all, name, words) {
+        Ok(order) => Ok(order_or_rulings(words, order)),
+        Err(told) => Err(told),
+    }
+}
+
 // The parsed command line without `--json`, from its subcommand.
 fn lines_of(
     alloc: Global,
@@ -669,6 +787,8 @@ fn lines_of(
         "serve" => serve_of(alloc, all, words),
         "batch" => Ok(Invocation::Batch(batch_of(alloc, all, words)?)),
         "round-robin" => Ok(Invocation::RoundRobin(round_robin_of(alloc, all, words)?)),
+        "retire" => rulings_of(alloc, all, name, words),
+        "extend" => rulings_of(alloc, all, name, words),
         _ => match order_of(alloc, false, all, name, words) {
             Ok(order) => Ok(Invocation::Order(order)),
             Err(told) => Err(told),

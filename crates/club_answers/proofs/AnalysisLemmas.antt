@@ -23,6 +23,7 @@ use Rattle.club_requests.specs.declared.refusals.Refusal.{Refusal}
 use Rattle.club_core.specs.Events.{Terms}
 use Rattle.club_core.specs.Game.{Entry, Game, moves_of}
 use Rattle.club_core.specs.Legal.{IsLegalGame}
+use Rattle.club_core.specs.Rulings.{GivenRuling}
 use Rattle.club_core.specs.State.{draughts, shogi, place}
 use Rattle.club_analysis.specs.Tried.{IsAnalysis, IsRefusedLine, LineShown}
 use Rattle.club_analysis.specs.internal.Line.{IsTriedAs, shown_view}
@@ -73,12 +74,12 @@ module _ {P M E T : Type 0} (laws : GameRules P M E T) where
 
   module _ (terms : Terms) (id : ℕ) where
     -- rows that were replayed have the notation of the line
-    pub replayed_texts : {R : Type 0} (from : ℕ) (rows : List MoveRow) (replayed : Replayed R P M E T)
-        → WasReplayed laws terms id from rows (length rows) replayed
+    pub replayed_texts : {R : Type 0} (rulings : List GivenRuling) (from : ℕ) (rows : List MoveRow)
+        (replayed : Replayed R P M E T) → WasReplayed laws terms id rulings from rows (length rows) replayed
         → map (λ r. string_bytes r.text) rows ≡ notation_from laws laws.start replayed.line.items
-    replayed_texts from rows replayed was =
+    replayed_texts rulings from rows replayed was =
         let all = ap (map move_cells) (sym (take-length rows)) ∙ was.played.moves in
-        texts_of laws terms id (at_start (game_from from was.entries)) was.entries rows all
+        texts_of laws terms id (at_start (game_from rulings from was.entries)) was.entries rows all
         ∙ ap (notation_from laws laws.start) (sym was.replays.line)
 
     module _ (game : Game M) (rows : List MoveRow) (same : HaveSame (map move_cells rows) (move_rows laws terms id game))

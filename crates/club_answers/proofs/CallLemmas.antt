@@ -29,19 +29,6 @@ between_three s one two three clean k =
     (first, kept, second, more)
 
 -- a call finds the game with this number, and the next call tells P of each game that is stored so
-pub tells_found : {answered : Bool} {a b c : State} {found : Option StoredGame} {stored : StoredGame}
-    {P : ClubGame → Type 0} (s : ClubState) (id : ℕ) → Reads true a b → Reads answered b c
-    → (HasCleanDisk b → (s : ClubState) → IsClub s → HasRows (tables s) a → IsFoundGame s id found)
-    → found ≡ Some stored → HasCleanDisk c → IsClub s → HasRows (tables s) a
-    → ((game : ClubGame) → IsClub s → place s.games id ≡ Some game → IsStoredGame s id game stored
-    → HasRows (tables s) b → P game)
-    → (game : ClubGame) × (place s.games id ≡ Some game) × P game
-tells_found s id one two finds is clean is_club k tells =
-    let (looked, kept) = between s one two clean k in
-    let (game, at, stored) = rw is at (finds looked s is_club k) in
-    (game, at, tells game is_club at stored kept)
-
--- the same where the next call needs the tables of the club's version
 pub tells_stored : {answered : Bool} {a b c : State} {found : Option StoredGame} {stored : StoredGame}
     {P : ClubGame → Type 0} (s : ClubState) (id : ℕ) → Reads true a b → Reads answered b c
     → (HasCleanDisk b → (s : ClubState) → IsClub s → HasRows (tables s) a → IsFoundGame s id found)

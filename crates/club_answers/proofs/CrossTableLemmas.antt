@@ -2,7 +2,7 @@
 use Rattle.std.proofs.Common.{◌≡◌, ℕ, zero, suc, ◌+◌, List, [], ◌∷◌, length, map, Option, Some, None, true, refl}
 use Rattle.std.proofs.Common.{ap, sym, ◌∙◌, arith, true≢false, ◌≤◌}
 use Rattle.std.proofs.lemmas.Option.{same_Some}
-use Rattle.std.specs.Prelude.{slice_get, Result, Ok, Err, IfOk}
+use Rattle.std.specs.Prelude.{filter, slice_get, Result, Ok, Err, IfOk}
 use Rattle.std.specs.List.{AllByRecursion}
 use Rattle.std.specs.Cmp.{tied_itself}
 use Rattle.std.proofs.lemmas.Bool.{and_parts, and_from}
@@ -13,7 +13,8 @@ use Rattle.sqlite_value.specs.Keys.{first_key}
 use Rattle.sqlite_value.proofs.OrderLemmas.{value_cmp_total, value_cmp-Text}
 use Rattle.sqlite_trees.specs.Tree.{IsAscending}
 use Rattle.sqlite_rules.specs.Lists.{Has}
-use Rattle.sqlite_rules.proofs.ListLemmas.{all_has, has_got}
+use Rattle.sqlite_rules.proofs.ListLemmas.{all_has, has_filtered, has_got, has_kept}
+use Rattle.sqlite_trees.proofs.ListLemmas.{ascending-filter}
 use Rattle.club_core.specs.Events.{Event, has_event_name}
 use Rattle.club_core.specs.Members.{find_id}
 use Rattle.club_laws.proofs.Proved.{bytes_eq-same, same-bytes_eq, find_id-found, find_id-none}
@@ -27,6 +28,7 @@ use Rattle.store_tables.specs.internal.Contents.{AreThose}
 use Rattle.store_tables.proofs.Proved.{equal_cmp, equal_from}
 use Rattle.club_answers.proofs.OneOrder.{one_order}
 use Rattle.club_answers.specs.CrossTable.{scored_row, AreScoresIn, AreTableRows, ComesBefore, IsCrossTable}
+use Rattle.club_answers.specs.CrossTable.{has_counted}
 use Rattle.club_changes.proofs.Proved.{numbered_had, numbered_has, ids_agree, place_at}
 
 -- ---- the event of a name
@@ -99,15 +101,17 @@ one_way x y below above = grind (arith, below, above)
 
 pub scores_are : (s : ClubState) (event : ℕ) (scores : List OpponentScore)
     → AreThose (0 ∷ []) (number event ∷ []) (tables s 14) (map (scored_row event) scores)
-    → IsAscending ComesBefore scores → AreScoresIn s event scores
+    → IsAscending ComesBefore scores → AreScoresIn s event (filter has_counted scores)
 scores_are s event scores those up = record {
-  there = λ x has. (those.sound (scored_row event x) (mapped_has (scored_row event) scores x has)).0;
-  back = λ x has.
+  there = λ x has.
+      let (had, counts) = has_filtered has_counted scores x has in
+      ((those.sound (scored_row event x) (mapped_has (scored_row event) scores x had)).0, counts);
+  back = λ x has counts.
       let (y, had, is) = mapped_had (scored_row event) scores (scored_row event x)
       (those.complete (scored_row event x) has (ids_agree (scored_row event x) (number event ∷ []) event refl refl)) in
       let same : x ≡ y = grind (arith, is) in
-      rw same had;
-  order = up;
+      has_kept has_counted scores x (rw same had) counts;
+  order = ascending-filter ComesBefore has_counted scores up;
 }
 
 -- what two facts of an answer tell together
@@ -120,7 +124,8 @@ both_ok (Err e) p q f = tt
 pub scores_one : (s : ClubState) (event : ℕ) (scores others : List OpponentScore) → AreScoresIn s event scores
     → AreScoresIn s event others → scores ≡ others
 scores_one s event scores others one two =
-    one_order ComesBefore one_way scores others one.order two.order (λ x h. two.back x (one.there x h)) (λ x h. one.back x (two.there x h))
+    one_order ComesBefore one_way scores others one.order two.order
+    (λ x h. let it = one.there x h in two.back x it.0 it.1) (λ x h. let it = two.there x h in one.back x it.0 it.1)
 
 -- ---- one table
 

@@ -1,4 +1,4 @@
--- Answers to queries that read only tables that each club has.
+-- Answers to queries that are the same in each version.
 use Rattle.std.proofs.Common.{◌≡◌, ℕ, List}
 use Rattle.std.specs.Prelude.{Result, Ok, Err, IfOk, string_bytes}
 use Rattle.sqlite.specs.State.{State}
@@ -28,10 +28,21 @@ module _ (IsThere : ClubState → List ℕ → Type 0) (IsNot : ClubState → Re
   -- the query is answered in each version
   pub found_stored : (version : Version) (conn : State) (given : Question) (r : Result Shown LookupFault)
       → given ≡ asked
-      → IfOk r (λ found. (s : ClubState) → IsClub s → HasRows (tables s) conn
+      → IfOk r (λ found. (s : ClubState) → IsClub s → StoresClub s conn
       → IsFoundAs (IsThere s) (IsNot s) found)
       → IfOk r (λ found. (s : ClubState) → IsClub s → version ≡ version_of s → StoresClub s conn
       → IsFound s moment given found)
   found_stored version conn given (Ok found) is told =
-      λ s is_club same stores. rw is (found_as s found (told s is_club (stores-rows s conn stores)))
+      λ s is_club same stores. rw is (found_as s found (told s is_club stores))
   found_stored version conn given (Err fault) is told = tt
+
+  -- the same for a query that reads only tables that each club has
+  pub found_in_rows : (version : Version) (conn : State) (given : Question) (r : Result Shown LookupFault)
+      → given ≡ asked
+      → IfOk r (λ found. (s : ClubState) → IsClub s → HasRows (tables s) conn
+      → IsFoundAs (IsThere s) (IsNot s) found)
+      → IfOk r (λ found. (s : ClubState) → IsClub s → version ≡ version_of s → StoresClub s conn
+      → IsFound s moment given found)
+  found_in_rows version conn given (Ok found) is told =
+      λ s is_club same stores. rw is (found_as s found (told s is_club (stores-rows s conn stores)))
+  found_in_rows version conn given (Err fault) is told = tt

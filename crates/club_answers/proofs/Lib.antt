@@ -5,6 +5,7 @@ mod CallLemmas
 mod ChallengeOrder
 pub mod CrossTableLemmas
 mod FoundLemmas
+mod GameRulings
 mod MemberChallenges
 mod OneOrder
 mod OverdueLemmas

@@ -8,10 +8,11 @@ use Rattle.club_rules.specs.GameRules.{GameRules}
 use Rattle.club_requests.specs.declared.outside_end.OutsideEnd.TheVariants.{Time}
 use Rattle.club_core.specs.declared.rows.GameEnd.{GameEnd}
 use Rattle.club_core.specs.Events.{Terms}
-use Rattle.club_core.specs.Game.{Game, end_of, result_of, rule_end, score_with, turn_of}
+use Rattle.club_core.specs.Game.{Game, end_of, rule_end, turn_of}
+use Rattle.club_core.specs.Rulings.{verdict_of}
 use Rattle.club_core.specs.State.{draughts, shogi, place, terms_at}
 use Rattle.club_core.specs.Step.{is_late as late_game, is_overdue, swept}
-use Rattle.club_core.proofs.Proved.{not-some, outside-alone, score-none}
+use Rattle.club_core.proofs.Proved.{not-some, outside-alone}
 use Rattle.club_rows.specs.Club.{ClubGame, ClubState, both_games}
 use Rattle.club_lists.specs.GameSummary.{is_late}
 use Rattle.club_answers.specs.Games.{over_of, game_summary_by_rules}
@@ -23,8 +24,7 @@ changes_alone true x y changes keeps = (changes, λ differs. refl)
 changes_alone false x y changes keeps = (λ is. absurd (true≢false (sym is)), λ differs. absurd (differs (keeps refl)))
 
 module _ {P M E T : Type 0} (rules : GameRules P M E T) where
-  same_over : (turn : Side) (end : Option (GameEnd E)) → is_some (over_of rules turn end)
-      ≡ is_some (score_with rules end turn)
+  same_over : (turn : Side) (end : Option (GameEnd E)) → is_some (over_of rules turn end) ≡ is_some end
   same_over turn None = refl
   same_over turn (Some end) = refl
 
@@ -36,9 +36,8 @@ module _ {P M E T : Type 0} (rules : GameRules P M E T) where
     -- a game that is late has not ended from outside, so that a sweep changes it
     late_changes : late_game rules terms game moment ≡ true → swept rules terms game moment ≢ game
     late_changes late same =
-        let none = not-some (result_of rules game) (not-true _ (and_parts _ _ late).0) in
-        let score = score-none rules (end_of rules game) (turn_of rules game) none in
-        let running = outside-alone (rule_end rules game) game.outside score in
+        let none = not-some (end_of rules game) (not-true _ (and_parts _ _ late).0) in
+        let running = outside-alone (rule_end rules game) (verdict_of game.rulings) game.outside none in
         let outside : Some Time ≡ game.outside = ap (λ g. g.outside) (rw late at same) in
         cc
 

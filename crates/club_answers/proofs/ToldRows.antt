@@ -82,7 +82,7 @@ pub told_push : {A B : Type 0} (f : A → B) (xs : List A) (x : A) (y : B) (ys :
     → map f (xs ++ x ∷ []) ++ ys ≡ map f xs ++ (y ∷ ys)
 told_push f xs x y ys is = rw (map-append f xs, is, append_assoc (map f xs)) refl
 
-drop_here : {A : Type 0} (xs : List A) (k : ℕ) (x : A) → slice_get xs k ≡ Some x → drop k xs ≡ x ∷ drop (suc k) xs
+pub drop_here : {A : Type 0} (xs : List A) (k : ℕ) (x : A) → slice_get xs k ≡ Some x → drop k xs ≡ x ∷ drop (suc k) xs
 drop_here [] k x at = cc
 drop_here (y ∷ ys) zero x at = let e : y ≡ x = cc in ap (λ z. z ∷ ys) e
 drop_here (y ∷ ys) (suc k) x at = drop_here ys k x at

@@ -7,14 +7,17 @@ use Rattle.std.proofs.lemmas.Option.{same_Some, slice_get-map}
 use Rattle.std.proofs.lemmas.List.{length-take-le, map-append, take-map}
 use Rattle.sqlite.specs.declared.types.Value.TheVariants.{Int}
 use Rattle.sqlite.specs.Order.{Row, column}
+use Rattle.sqlite.specs.State as connection
 use Rattle.club_rules.specs.declared.names.GameKind.{GameKind}
 use Rattle.club_rules.specs.GameRules.{GameRules}
 use Rattle.club_rules.proofs.Proved.{check-at}
 use Rattle.club_requests.specs.Limits.{most_plies}
 use Rattle.club_requests.specs.declared.outside_end.OutsideEnd.{OutsideEnd}
+use Rattle.club_requests.specs.declared.rulings.Verdict.{Verdict}
 use Rattle.club_core.specs.Events.{Terms}
 use Rattle.club_core.specs.Game.{Entry, Game, moves_of, last_position, end_with, rule_end}
 use Rattle.club_core.specs.Legal.{IsLegalGame}
+use Rattle.club_core.specs.Rulings.{verdict_of}
 use Rattle.club_core.specs.State.{place, terms_at}
 use Rattle.club_core.specs.View.{IsRowOf}
 use Rattle.club_core.specs.declared.rows.GameEnd.TheVariants.{Outside}
@@ -23,7 +26,7 @@ use Rattle.club_core.proofs.Proved.{last-played}
 use Rattle.club_exports.specs.Title.{Title, timed}
 use Rattle.club_exports.specs.internal.Written.{FitsMoves, AddsRecord, BeginsRecord}
 use Rattle.club_exports.specs.internal.Exported.{IsNextText}
-use Rattle.club_rows.specs.Club.{both_games, ClubGame, ClubState, IsClub, tables}
+use Rattle.club_rows.specs.Club.{both_games, ClubGame, ClubState, IsClub, StoresClub, tables}
 use Rattle.club_rows.specs.internal.Replay.{terms_given}
 use Rattle.club_rows.specs.internal.RowView.{row_at}
 use Rattle.club_rows.specs.Tables.{number, entry_rows, move_rows, rows_of_moves, at_start, with_entry}
@@ -36,6 +39,8 @@ use Rattle.club_changes.specs.internal.Stored.{IsStoredGame}
 use Rattle.club_changes.specs.declared.stored.StoredGame.{StoredGame}
 use Rattle.club_changes.proofs.Proved.{of_game, in_table, id_of, ply_is, ids_agree, ids_same, gathered_had, one_line}
 use Rattle.club_changes.proofs.Proved.{moves_had, pos_same, stored_as, take_next, tells_moves, tells-seen}
+use Rattle.club_reads.specs.internal.Rulings.{FindsVerdict}
+use Rattle.club_reads.proofs.Proved.{tells_verdict}
 use Rattle.club_answers.specs.Exported.{IsTitleOf}
 use Rattle.club_answers.specs.internal.Exported.{AddsNamed, BeginsNamed, IsTitleBy}
 use Rattle.club_analysis.specs.Tried.{notation_from}
@@ -63,6 +68,7 @@ module _ {P M E T : Type 0} {laws : GameRules P M E T} {kind : GameKind} (k : Ki
       × (terms_given stored.terms ≡ terms_at (place s.events g.event)) × FindsSeenRows laws stored.id g (tables s)
       × FindsMoveRows laws (terms_given stored.terms) stored.id g (tables s)
       × TellsLine laws (terms_given stored.terms) stored.id g (tables s)
+      × ((conn : connection.State) → StoresClub s conn → FindsVerdict stored.id g (tables s) conn)
       × IsRecordOf laws (terms_given stored.terms) stored.id stored.row g
   told_as is_club id game stored at is kind_is = let (g, of) = stored_as k s is_club id game stored at is kind_is in (
     g,
@@ -71,6 +77,8 @@ module _ {P M E T : Type 0} {laws : GameRules P M E T} {kind : GameKind} (k : Ki
     subst (λ i. FindsSeenRows laws i g (tables s)) (sym is.id_is) (tells-seen k s id g of.here),
     subst₂ (λ t i. FindsMoveRows laws t i g (tables s)) (sym of.terms) (sym is.id_is) (tells_moves k s id g of.here),
     subst₂ (λ t i. TellsLine laws t i g (tables s)) (sym of.terms) (sym is.id_is) (tells_line id g of.here),
+    λ conn stores. subst (λ i. FindsVerdict i g (tables s) conn) (sym is.id_is)
+        (tells_verdict k s id g of.here is_club conn stores),
     of.is_row,
   )
 
@@ -176,12 +184,14 @@ module _ {P M E T : Type 0} {rules : GameRules P M E T} (IsText : Title E → Li
   -- the end that it tells of a legal game fits its moves
   pub title-fits : {given : Terms} → IsLegalGame rules given game → FitsMoves rules title (moves_of game)
   title-fits legal declared =
-      let may = rw (outside (rule_end rules game) game.outside _ (sym titled.end ∙ declared)) at legal.outside in may.1
+      let may = rw (outside (rule_end rules game) (verdict_of game.rulings) game.outside _
+      (sym titled.end ∙ declared)) at legal.outside in
+      may.1
     where
-      outside : (e : Option E) (o : Option OutsideEnd) (end : OutsideEnd) → end_with e o ≡ Some (Outside end)
-          → o ≡ Some end
-      outside None (Some o) end told = cc
-      outside _ _ end told = cc
+      outside : (e : Option E) (v : Option Verdict) (o : Option OutsideEnd) (end : OutsideEnd)
+          → end_with e v o ≡ Some (Outside end) → o ≡ Some end
+      outside None None (Some o) end told = cc
+      outside _ _ _ end told = cc
 
   -- the seconds of the game's record are counted from its start
   pub begins : (before now : Option (List ℕ)) → BeginsRecord IsText title (timed title.start game.entries) before now

@@ -1,12 +1,12 @@
 -- The answer to each query: the whole text, or the refusal.
 use Rattle.std.specs.Prelude.{◌≡◌, ◌⊎◌, ℕ, List, [], ◌∷◌, ◌++◌, Option, Some, None, Result, Ok, Err}
-use Rattle.std.specs.Prelude.{codes, string_bytes, true, false}
+use Rattle.std.specs.Prelude.{codes, length, string_bytes, true, false}
 use Rattle.std.specs.Io.KnownBytes.{Appends}
 use Rattle.record_writer.specs.Pieces.{AppendsSome}
 use Rattle.club_requests.specs.Analysis.{analysis_view}
 use Rattle.club_requests.specs.declared.refusals.Refusal.{Refusal}
 use Rattle.club_requests.specs.declared.refusals.Refusal.TheVariants.{UnknownEvent, UnknownGame, UnknownKey}
-use Rattle.club_core.specs.State.{place}
+use Rattle.club_core.specs.State.{place, rulings_of}
 use Rattle.club_rows.specs.Club.{ClubGame, ClubState}
 use Rattle.club_changes.specs.Stored.{AreLegalRows}
 use Rattle.club_answers.specs.CrossTable.{AreTableRows}
@@ -20,6 +20,10 @@ use Rattle.club_requests.specs.declared.questions.Question.TheVariants.{GameCloc
 use Rattle.club_requests.specs.declared.questions.Question.TheVariants.{Board, GamePage, LegalMovesJson, Analysis}
 use Rattle.club_requests.specs.declared.questions.Question.TheVariants.{Challenges, ChallengesJson}
 use Rattle.club_requests.specs.declared.questions.Question.TheVariants.{MembersJson, EventsJson, GamesJson}
+use Rattle.club_requests.specs.declared.questions.Question.TheVariants.{Rulings, RulingsJson, RulingOrders}
+use Rattle.club_requests.specs.declared.questions.BulkRuling.{BulkRuling}
+use Rattle.club_lists.specs.RulingOrders.{bulk_refusal, ruling_orders}
+use Rattle.club_lists.specs.RulingTexts.{AreRulingLines, rulings_json}
 use Rattle.club_lists.specs.ChallengeLines.{challenge_lines}
 use Rattle.club_lists.specs.ClubJson.{challenges_json, events_json, games_json, members_json}
 use Rattle.club_lists.specs.Lines.{member_lines, event_lines, AreGameLines}
@@ -162,6 +166,33 @@ IsClockText s moment id text =
     (game : ClubGame) × (place s.games id ≡ Some game)
     × (text ≡ clock_text s.members (effective_moment s moment) (game_summary_of s id game))
 
+-- ---- rulings
+
+-- the lines of the rulings on the game with this number
+abbrev pub IsRulingsText : ClubState → ℕ → List ℕ → Type 0
+IsRulingsText s id text =
+    (game : ClubGame) × (place s.games id ≡ Some game) × AreRulingLines 1 (rulings_of game) text
+
+-- the same as JSON
+abbrev pub IsRulingsJson : ClubState → ℕ → List ℕ → Type 0
+IsRulingsJson s id text =
+    (game : ClubGame) × (place s.games id ≡ Some game) × (text ≡ rulings_json (rulings_of game))
+
+-- the number of rulings on a game that was looked up
+abbrev pub rulings_at : Option ClubGame → ℕ
+rulings_at None = 0
+rulings_at (Some game) = length (rulings_of game)
+
+-- the orders of a batch that gives these rulings, if the event and the member that they name exist
+abbrev pub IsRulingOrders : ClubState → BulkRuling → List ℕ → Type 0
+IsRulingOrders s bulk text =
+    (bulk_refusal s.members s.events bulk ≡ None)
+    × (text ≡ ruling_orders s.members s.events (λ id. rulings_at (place s.games id)) bulk (game_summaries s))
+
+-- the event or the member that the rulings name does not exist
+abbrev pub IsNoBulk : ClubState → BulkRuling → Refusal → Type 0
+IsNoBulk s bulk refusal = bulk_refusal s.members s.events bulk ≡ Some refusal
+
 -- ---- records of an event
 
 -- all records of the event, if it exists
@@ -201,6 +232,9 @@ IsText s moment (LegalMovesJson game) text = IsMovesBody s game text
 IsText s moment (Board game letters) text = IsBoardText s moment game letters text
 IsText s moment (EventRecords name) text = IsRecordsText s (string_bytes name) text
 IsText s moment (Analysis asked) text = IsAnalysisText s (analysis_view asked) text
+IsText s moment (Rulings game) text = IsRulingsText s game text
+IsText s moment (RulingsJson game) text = IsRulingsJson s game text
+IsText s moment (RulingOrders bulk) text = IsRulingOrders s bulk text
 
 -- why a query is refused
 abbrev pub IsRefused : ClubState → Question → Refusal → Type 0
@@ -227,6 +261,9 @@ IsRefused s (LegalMovesJson game) refusal = IsNoGame s game refusal
 IsRefused s (Board game letters) refusal = IsNoGame s game refusal
 IsRefused s (EventRecords name) refusal = IsNoEventNamed s (string_bytes name) refusal
 IsRefused s (Analysis asked) refusal = IsNoAnalysis s (analysis_view asked) refusal
+IsRefused s (Rulings game) refusal = IsNoGame s game refusal
+IsRefused s (RulingsJson game) refusal = IsNoGame s game refusal
+IsRefused s (RulingOrders bulk) refusal = IsNoBulk s bulk refusal
 
 -- the answer to a query at this timestamp: a text or a refusal
 abbrev pub IsShown : ClubState → (moment : ℕ) → Question → Result (List ℕ) Refusal → Type 0

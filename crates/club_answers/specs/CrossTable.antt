@@ -1,5 +1,5 @@
 -- The cross table of an event, from the ended games in a state of the club.
-use Rattle.std.specs.Prelude.{◌≡◌, ◌<◌, ◌⊎◌, ℕ, suc, List, [], ◌∷◌, map, Option, Some, None}
+use Rattle.std.specs.Prelude.{◌≡◌, ◌<◌, ◌⊎◌, ℕ, suc, List, [], ◌∷◌, map, Option, Some, None, Bool, nat_lt, true}
 use Rattle.sqlite.specs.Order.{Row}
 use Rattle.sqlite_rules.specs.Lists.{Has}
 use Rattle.sqlite_trees.specs.Tree.{IsAscending}
@@ -8,7 +8,7 @@ use Rattle.cross_tables.specs.declared.standings.Standing.{Standing}
 use Rattle.cross_tables.specs.Cells.{cell_of}
 use Rattle.cross_tables.specs.Lines.{header_text, line_text}
 use Rattle.cross_tables.specs.Places.{AreRanked}
-use Rattle.cross_tables.specs.Totals.{AreTotals}
+use Rattle.cross_tables.specs.Totals.{AreTotals, games}
 use Rattle.club_core.specs.Events.{has_event_name}
 use Rattle.club_core.specs.Members.{Member, find_id}
 use Rattle.club_core.specs.State.{place}
@@ -34,11 +34,16 @@ scored_row event scored =
 abbrev pub ComesBefore : OpponentScore → OpponentScore → Type 0
 ComesBefore one other = (one.member < other.member) ⊎ ((one.member ≡ other.member) × (one.opponent < other.opponent))
 
--- the scores between members in the ended games of the event, in that order, each pair once
+-- the two have a game that counts: it has ended, and is not void
+abbrev pub has_counted : OpponentScore → Bool
+has_counted scored = nat_lt 0 (games scored.sums)
+
+-- the scores between members in the games of the event that count, in that order, each pair once
 pub record AreScoresIn (s : ClubState) (event : ℕ) (scores : List OpponentScore) : Type 0 where
   pub there : (scored : OpponentScore) → Has scores scored
-      → Has (scores_in both_games s.games) (scored_row event scored)
-  pub back : (scored : OpponentScore) → Has (scores_in both_games s.games) (scored_row event scored) → Has scores scored
+      → Has (scores_in both_games s.games) (scored_row event scored) × (has_counted scored ≡ true)
+  pub back : (scored : OpponentScore) → Has (scores_in both_games s.games) (scored_row event scored)
+      → has_counted scored ≡ true → Has scores scored
   pub order : IsAscending ComesBefore scores
 
 -- ---- the lines
@@ -60,8 +65,8 @@ module _ (members : List Member) (scores : List OpponentScore) (standings : List
   lines_from at [] = []
   lines_from at (standing ∷ rest) = standing_line at standing ∷ lines_from (suc at) rest
 
--- The lines of the cross table of the event with this id and name: the header, then one line for each member with an
--- ended game in the event, in the order of places.
+-- The lines of the cross table of the event with this id and name: the header, then one line for each member with a
+-- game that counts in the event, in the order of places.
 pub record IsCrossTable (s : ClubState) (event : ℕ) (name : List ℕ) (lines : List (List ℕ)) : Type 0 where
   pub scores : List OpponentScore
   pub scores_are : AreScoresIn s event scores

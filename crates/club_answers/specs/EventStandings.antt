@@ -10,8 +10,8 @@ use Rattle.club_rows.specs.Club.{ClubState}
 use Rattle.club_answers.specs.CrossTable.{AreScoresIn}
 use Rattle.club_answers.specs.Games.{game_summaries}
 
--- The lines of the standings of the event with this id: one for each member with a game in the event, running or ended,
--- in the order of places.
+-- The lines of the standings of the event with this id: one for each member with a game in the event that is not void,
+-- running or ended, in the order of places.
 pub record AreStandings (s : ClubState) (event : ℕ) (lines : List FieldLine) : Type 0 where
   pub scores : List OpponentScore
   pub scores_are : AreScoresIn s event scores

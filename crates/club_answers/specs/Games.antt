@@ -5,7 +5,7 @@ use Rattle.squares.specs.Sides.{score_text}
 use Rattle.squares.specs.declared.sides.Side.{Side}
 use Rattle.club_rules.specs.GameRules.{GameRules}
 use Rattle.club_core.specs.Events.{Terms}
-use Rattle.club_core.specs.Game.{Game, clocks_of, end_of, end_score, turn_of}
+use Rattle.club_core.specs.Game.{Game, clocks_of, end_of, score_with, turn_of}
 use Rattle.club_core.specs.State.{draughts, shogi, place, terms_at}
 use Rattle.club_core.specs.declared.rows.GameEnd.{GameEnd}
 use Rattle.club_rows.specs.Club.{ClubGame, ClubState, both_games}
@@ -17,7 +17,11 @@ module _ {P M E T : Type 0} (rules : GameRules P M E T) where
   abbrev pub over_of : Side → Option (GameEnd E) → Option Over
   over_of turn None = None
   over_of turn (Some end) =
-      Some (record { end = end_name_text rules end; result = score_text (end_score rules turn end) })
+      Some
+      (record {
+        end = end_name_text rules end;
+        result = option_map score_text (score_with rules (Some end) turn);
+      })
 
   -- the entry of the game with this id, by its rules
   abbrev pub game_summary_by_rules : Terms → ℕ → Game M → GameSummary

@@ -4,7 +4,7 @@ use Rattle.std.specs.Option.{option_map}
 use Rattle.club_rules.specs.GameRules.{GameRules}
 use Rattle.club_rules.specs.declared.names.EndName.{EndName}
 use Rattle.club_core.specs.declared.rows.GameEnd.{GameEnd}
-use Rattle.club_core.specs.declared.rows.GameEnd.TheVariants.{Rule, Outside}
+use Rattle.club_core.specs.declared.rows.GameEnd.TheVariants.{Rule, Verdict, Outside}
 use Rattle.club_core.specs.Events.{Terms}
 use Rattle.club_core.specs.Game.{Game, clocks_of, moves_of, last_position, end_of, result_of}
 use Rattle.club_core.specs.State.{draughts, shogi, place, terms_at, pairing_of}
@@ -16,6 +16,7 @@ use Rattle.club_answers.specs.declared.viewed.ViewedGame.{ViewedGame}
 -- the name of an end that the rules define; any other end is unchanged
 abbrev pub named : {P M E T : Type 0} → GameRules P M E T → GameEnd E → GameEnd EndName
 named rules (Rule e) = Rule (rules.end_name e)
+named rules (Verdict v) = Verdict v
 named rules (Outside o) = Outside o
 
 module _ {P M E T : Type 0} (rules : GameRules P M E T) where

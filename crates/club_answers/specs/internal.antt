@@ -6,4 +6,5 @@ pub mod Found
 pub mod Games
 pub mod Overdue
 pub mod Pages
+pub mod Rulings
 pub mod Writing

@@ -14,7 +14,9 @@ ghost use Rattle.club_core.specs.Game.{Game};
 ghost use Rattle.club_core.specs.State.{place};
 ghost use Rattle.club_analysis.specs.internal.Line.{IsTriedAs, shown_view};
 ghost use Rattle.club_rows.specs.Club.{ClubGame, ClubState, IsClub, tables};
+ghost use Rattle.club_rows.specs.Rulings.{ArePossible};
 ghost use Rattle.club_rows.specs.internal.Replay.{terms_given};
+ghost use Rattle.club_rows.specs.internal.Rulings.{rulings_given};
 ghost use Rattle.club_changes.specs.Steps.{IsRecordOf};
 ghost use Rattle.club_changes.specs.internal.Steps.{TellsLine};
 ghost use Rattle.club_changes.specs.internal.Stored.{IsStoredGame};
@@ -27,8 +29,10 @@ ghost use Rattle.club_answers.specs.internal.Found.{IsFoundAs};
 
 use crate::found::Shown;
 use crate::played_lines::line_at;
+use crate::rulings::rulings_in;
 use club_analysis::{ShownLine, analyse, line_from_opening, line_from_text};
 use club_changes::StoredGame;
+use club_core::GivenRuling;
 use club_games::by_kind;
 use club_lists::analysis_text;
 use club_reads::{LookupFault, stored_game};
@@ -37,6 +41,7 @@ use club_requests::{Analysis, AnalysisStart, Refusal};
 use club_rules::{GameKind, Memory, MoveRefusal, Rules};
 use sqlite::{Alter, Connection};
 use std::alloc::{AllocError, Global};
+use store_tables::Version;
 
 // Whether no text is too long.
 fn are_short(texts: &[String]) -> bool
@@ -112,9 +117,11 @@ fn from_game<R: Rules, S: Alter>(
     conn: &mut Connection<S>,
     stored: &StoredGame,
     ply: u64,
+    rulings: &[GivenRuling],
     moves: &[String],
 ) -> Result<Result<ShownLine, Refusal>, LookupFault>
     requires few { length moves.now ≤ 64 }
+    requires possible { ArePossible (rulings_given rulings.now) }
     ensures reads { Reads (is_ok result) (state S.Store conn.old) (state S.Store conn.new) }
     ensures answered { HasCleanDisk (state S.Store conn.new) → IfOk result (λ tried. (content : Content)
         (game : Game R.Move) → HasRows content (state S.Store conn.old) →
@@ -123,7 +130,7 @@ fn from_game<R: Rules, S: Alter>(
         IsTriedAs (IsShownInGame R.rules game ply (map (λ t. string_bytes t) moves.now))
         (IsRefusedInGame R.rules game ply (map (λ t. string_bytes t) moves.now)) tried) }
 {
-    match line_at::<R, S>(alloc, conn, stored, ply)? {
+    match line_at::<R, S>(alloc, conn, stored, ply, rulings)? {
         Some(line) => Ok(analyse(alloc, line, moves)?),
         None => Ok(Err(Refusal::BadValue)),
     }
@@ -135,9 +142,11 @@ fn from_stored<S: Alter>(
     conn: &mut Connection<S>,
     stored: &StoredGame,
     ply: u64,
+    rulings: &[GivenRuling],
     moves: &[String],
 ) -> Result<Result<ShownLine, Refusal>, LookupFault>
     requires few { length moves.now ≤ 64 }
+    requires possible { ArePossible (rulings_given rulings.now) }
     ensures reads { Reads (is_ok result) (state S.Store conn.old) (state S.Store conn.new) }
     ensures answered { HasCleanDisk (state S.Store conn.new) → IfOk result (λ tried. (s : ClubState) (id : ℕ)
         (game : ClubGame) → IsClub s → place s.games id ≡ Some game → IsStoredGame s id game stored.now →
@@ -147,7 +156,7 @@ fn from_stored<S: Alter>(
 {
     by_kind!(
         stored.kind,
-        from_game::<_, S>(alloc, conn, stored, ply, moves)
+        from_game::<_, S>(alloc, conn, stored, ply, rulings, moves)
     )
 }
 
@@ -168,7 +177,9 @@ fn from_found<S: Alter>(
     stored: &StoredGame,
     asked: &Analysis,
     ply: u64,
+    rulings: &[GivenRuling],
 ) -> Result<Result<ShownLine, Refusal>, LookupFault>
+    requires { ArePossible (rulings_given rulings.now) }
     ensures reads { Reads (is_ok result) (state S.Store conn.old) (state S.Store conn.new) }
     ensures answered { HasCleanDisk (state S.Store conn.new) → IfOk result (λ tried. (s : ClubState) (id : ℕ)
         (game : ClubGame) → IsClub s → place s.games id ≡ Some game → IsStoredGame s id game stored.now →
@@ -183,12 +194,13 @@ fn from_found<S: Alter>(
     if !are_few(&asked.moves) {
         return Ok(Err(Refusal::BadValue));
     }
-    from_stored(alloc, conn, stored, ply, &asked.moves)
+    from_stored(alloc, conn, stored, ply, rulings, &asked.moves)
 }
 
 // In the game with this number.
 fn in_game<S: Alter>(
     alloc: Global,
+    version: Version,
     conn: &mut Connection<S>,
     asked: &Analysis,
     game: u64,
@@ -202,7 +214,10 @@ fn in_game<S: Alter>(
         (IsRefusedAt s asked.now.kind (in_game game ply) (analysis_view asked.now).texts) tried) }
 {
     match stored_game(alloc, conn, game)? {
-        Some(stored) => from_found(alloc, conn, &stored, asked, ply),
+        Some(stored) => {
+            let rulings = rulings_in(alloc, version, conn, stored.id)?;
+            from_found(alloc, conn, &stored, asked, ply, &rulings)
+        }
         None => Ok(Err(Refusal::UnknownGame)),
     }
 }
@@ -227,6 +242,7 @@ fn in_position(
 // What an analysis shows, or why it is refused.
 fn analysed<S: Alter>(
     alloc: Global,
+    version: Version,
     conn: &mut Connection<S>,
     asked: &Analysis,
 ) -> Result<Result<ShownLine, Refusal>, LookupFault>
@@ -238,7 +254,7 @@ fn analysed<S: Alter>(
     match &asked.start {
         AnalysisStart::Opening => Ok(in_position(alloc, asked, None)?),
         AnalysisStart::Position(text) => Ok(in_position(alloc, asked, Some(text.as_str()))?),
-        AnalysisStart::Game { game, ply } => in_game(alloc, conn, asked, *game, *ply),
+        AnalysisStart::Game { game, ply } => in_game(alloc, version, conn, asked, *game, *ply),
     }
 }
 
@@ -257,6 +273,7 @@ fn text_of(alloc: Global, shown: &ShownLine) -> Result<String, AllocError>
 /// An analysis as JSON.
 pub(crate) fn analysis<S: Alter>(
     alloc: Global,
+    version: Version,
     conn: &mut Connection<S>,
     asked: &Analysis,
 ) -> Result<Shown, LookupFault>
@@ -265,7 +282,7 @@ pub(crate) fn analysis<S: Alter>(
         HasRows (tables s) (state S.Store conn.old) →
         IsFoundAs (IsAnalysisText s (analysis_view asked.now)) (IsNoAnalysis s (analysis_view asked.now)) found) }
 {
-    match analysed(alloc, conn, asked)? {
+    match analysed(alloc, version, conn, asked)? {
         Ok(shown) => Ok(Shown::Text(text_of(alloc, &shown)?)),
         Err(refusal) => Ok(Shown::Refused(refusal)),
     }

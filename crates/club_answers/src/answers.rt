@@ -4,9 +4,8 @@ ghost use Rattle.std.specs.Prelude.{◌≡◌, ℕ, IfOk};
 ghost use Rattle.record_writer.specs.Pieces.{AppendsSome};
 ghost use Rattle.sqlite.specs.State.{HasCleanDisk};
 ghost use Rattle.sqlite.specs.Held.{state};
-ghost use Rattle.store_tables.specs.internal.Over.{HasRows};
 ghost use Rattle.store_tables.specs.Reading.{Reads};
-ghost use Rattle.club_rows.specs.Club.{ClubState, IsClub, StoresClub, tables};
+ghost use Rattle.club_rows.specs.Club.{ClubState, IsClub, StoresClub};
 ghost use Rattle.club_rows.specs.Tables.{version_of};
 ghost use Rattle.club_answers.specs.internal.Exported.{no_call_failed};
 ghost use Rattle.club_requests.specs.declared.questions.Question.TheVariants as question;
@@ -43,10 +42,10 @@ fn write_record<S: Alter, W: Write>(
 ) -> Result<Option<Refusal>, ViewFault>
     ensures reads { Reads (no_call_failed result) (state S.Store conn.old) (state S.Store conn.new) }
     ensures shown { HasCleanDisk (state S.Store conn.new) → IfOk result (λ refusal. (s : ClubState) (moment : ℕ) →
-        IsClub s → HasRows (tables s) (state S.Store conn.old) →
+        IsClub s → StoresClub s (state S.Store conn.old) →
         HasWrittenAnswer s moment (question.Record game) refusal (W.contents writer.old) (W.contents writer.new)) }
     ensures begun { HasCleanDisk (state S.Store conn.new) → (s : ClubState) (moment : ℕ) → IsClub s →
-        HasRows (tables s) (state S.Store conn.old) →
+        StoresClub s (state S.Store conn.old) →
         HasShownSome s moment (question.Record game) (W.contents writer.old) (W.contents writer.new) }
 {
     match export_game(alloc, conn, game, writer) {

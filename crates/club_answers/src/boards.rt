@@ -8,7 +8,8 @@ ghost use Rattle.store_tables.specs.Contents.{Content};
 ghost use Rattle.store_tables.specs.Reading.{Reads};
 ghost use Rattle.club_core.specs.Game.{Game, last_position};
 ghost use Rattle.club_core.specs.State.{place};
-ghost use Rattle.club_rows.specs.Club.{ClubGame, ClubState, IsClub, tables};
+ghost use Rattle.club_reads.specs.internal.Rulings.{FindsVerdict};
+ghost use Rattle.club_rows.specs.Club.{ClubGame, ClubState, IsClub, StoresClub};
 ghost use Rattle.club_rows.specs.internal.Replay.{terms_given};
 ghost use Rattle.club_changes.specs.Steps.{IsRecordOf};
 ghost use Rattle.club_changes.specs.internal.Steps.{FindsSeenRows};
@@ -72,6 +73,7 @@ fn diagram_by<R: Diagrams, S: Alter>(
     ensures shown { HasCleanDisk (state S.Store conn.new) →
         IfOk result (λ text. (content : Content) (game : Game R.Move) →
         HasRows content (state S.Store conn.old) → FindsSeenRows R.rules stored.now.id game content →
+        FindsVerdict stored.now.id game content (state S.Store conn.old) →
         IsRecordOf R.rules (terms_given stored.now.terms) stored.now.id stored.now.row game →
         string_bytes text ≡ R.diagram letters (last_position R.rules game)) }
 {
@@ -90,7 +92,7 @@ fn diagram_in<S: Alter>(
     ensures reads { Reads (is_ok result) (state S.Store conn.old) (state S.Store conn.new) }
     ensures shown { HasCleanDisk (state S.Store conn.new) → IfOk result (λ text. (s : ClubState) (id : ℕ)
         (game : ClubGame) → IsClub s → place s.games id ≡ Some game → IsStoredGame s id game stored.now →
-        HasRows (tables s) (state S.Store conn.old) → string_bytes text ≡ diagram_of letters game) }
+        StoresClub s (state S.Store conn.old) → string_bytes text ≡ diagram_of letters game) }
 {
     by_kind!(
         stored.kind,
@@ -108,7 +110,7 @@ fn board_in<S: Alter>(
     ensures reads { Reads (is_ok result) (state S.Store conn.old) (state S.Store conn.new) }
     ensures shown { HasCleanDisk (state S.Store conn.new) → IfOk result (λ board. (s : ClubState) (id : ℕ)
         (game : ClubGame) → IsClub s → place s.games id ≡ Some game → IsStoredGame s id game stored.now →
-        HasRows (tables s) (state S.Store conn.old) → board_by board ≡ board_of s letters game) }
+        StoresClub s (state S.Store conn.old) → board_by board ≡ board_of s letters game) }
 {
     let diagram = diagram_in(alloc, conn, stored, letters)?;
     let viewed = view_of(alloc, conn, u64::from(stored.id))?;
@@ -135,7 +137,7 @@ pub(crate) fn board<S: Alter>(
 ) -> Result<Shown, LookupFault>
     ensures reads { Reads (is_ok result) (state S.Store conn.old) (state S.Store conn.new) }
     ensures found { HasCleanDisk (state S.Store conn.new) → IfOk result (λ found. (s : ClubState) → IsClub s →
-        HasRows (tables s) (state S.Store conn.old) →
+        StoresClub s (state S.Store conn.old) →
         IsFoundAs (IsBoardText s moment game letters) (IsNoGame s game) found) }
 {
     let last = last_moment(alloc, conn)?;

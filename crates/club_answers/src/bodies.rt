@@ -4,9 +4,8 @@ ghost use Rattle.std.specs.Prelude.{◌≡◌, IfOk, is_ok, string_bytes};
 ghost use Rattle.std.specs.Option.{option_map};
 ghost use Rattle.sqlite.specs.State.{HasCleanDisk};
 ghost use Rattle.sqlite.specs.Held.{state};
-ghost use Rattle.store_tables.specs.internal.Over.{HasRows};
 ghost use Rattle.store_tables.specs.Reading.{Reads};
-ghost use Rattle.club_rows.specs.Club.{ClubState, IsClub, tables};
+ghost use Rattle.club_rows.specs.Club.{ClubState, IsClub, StoresClub};
 ghost use Rattle.serde_json.specs.Written.{compact_text};
 ghost use Rattle.club_lists.specs.Bodies.{game_data};
 ghost use Rattle.club_lists.specs.internal.ShownViews.{game_view};
@@ -92,7 +91,7 @@ pub(crate) fn game_body<S: Alter>(
 ) -> Result<Shown, LookupFault>
     ensures reads { Reads (is_ok result) (state S.Store conn.old) (state S.Store conn.new) }
     ensures found { HasCleanDisk (state S.Store conn.new) → IfOk result (λ found. (s : ClubState) → IsClub s →
-        HasRows (tables s) (state S.Store conn.old) → IsFoundAs (IsGameBody s game) (IsNoGame s game) found) }
+        StoresClub s (state S.Store conn.old) → IsFoundAs (IsGameBody s game) (IsNoGame s game) found) }
 {
     match view_of(alloc, conn, game)? {
         Some(viewed) => {
@@ -111,7 +110,7 @@ pub(crate) fn moves_body<S: Alter>(
 ) -> Result<Shown, LookupFault>
     ensures reads { Reads (is_ok result) (state S.Store conn.old) (state S.Store conn.new) }
     ensures found { HasCleanDisk (state S.Store conn.new) → IfOk result (λ found. (s : ClubState) → IsClub s →
-        HasRows (tables s) (state S.Store conn.old) → IsFoundAs (IsMovesBody s game) (IsNoGame s game) found) }
+        StoresClub s (state S.Store conn.old) → IsFoundAs (IsMovesBody s game) (IsNoGame s game) found) }
 {
     match legal_of(alloc, conn, game)? {
         Some(rows) => {

@@ -16,7 +16,7 @@ ghost use Rattle.store_tables.specs.Cells.{event_cells};
 ghost use Rattle.store_tables.specs.internal.Over.{HasRows};
 ghost use Rattle.store_tables.specs.Reading.{Reads};
 ghost use Rattle.club_answers.specs.CrossTable.{name_in, standing_line, lines_from, AreScoresIn, AreTableRows};
-ghost use Rattle.club_answers.specs.CrossTable.{IsCrossTable};
+ghost use Rattle.club_answers.specs.CrossTable.{IsCrossTable, has_counted};
 
 use crate::scored::scored_rows;
 use club_core::Member;
@@ -54,7 +54,20 @@ pub(crate) fn event_named<S: Alter>(
     }
 }
 
-/// The scores between the members of this event.
+// The scores of pairs with a game that counts: it has ended, and is not void.
+fn counted(alloc: Global, scores: &[OpponentScore]) -> Result<Vec<OpponentScore>, LookupFault>
+    ensures { IfOk result (λ counted. counted.items ≡ filter has_counted scores.now) }
+{
+    Ok(
+        scores
+            .iter()
+            .filter(|row| row.sums.games() > 0)
+            .copied()
+            .collect(alloc)?,
+    )
+}
+
+/// The scores between the members of this event, by the games that count.
 pub(crate) fn scores_in<S: Alter>(
     alloc: Global,
     conn: &mut Connection<S>,
@@ -66,7 +79,8 @@ pub(crate) fn scores_in<S: Alter>(
 {
     let number = i64::from(event);
     let rows = find_by_first::<ScoreRow, S>(alloc, conn, &number)?;
-    scored_rows(alloc, &rows, event)
+    let scores = scored_rows(alloc, &rows, event)?;
+    counted(alloc, &scores)
 }
 
 /// The name of the member with this id.

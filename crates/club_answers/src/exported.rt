@@ -10,6 +10,7 @@ ghost use Rattle.club_exports.specs.Title.{Title, timed};
 ghost use Rattle.club_exports.specs.internal.Title.{title_of};
 ghost use Rattle.club_exports.specs.internal.Written.{BeginsRecord};
 ghost use Rattle.club_exports.specs.internal.Exported.{IsWritten, IsUnderWay};
+ghost use Rattle.club_reads.specs.internal.Rulings.{FindsVerdict};
 ghost use Rattle.club_rows.specs.internal.Replay.{terms_given};
 ghost use Rattle.club_rows.specs.internal.RowView.{row_at};
 ghost use Rattle.sqlite.specs.State.{HasCleanDisk};
@@ -185,11 +186,13 @@ pub(crate) fn write_record<R: WriteRecord, S: Alter, W: Write>(
     ensures written { HasCleanDisk (state S.Store conn.new) → OnOk result ((content : Content) (game : Game R.Move) →
         HasRows content (state S.Store conn.old) → FindsSeenRows R.rules stored.now.id game content →
         FindsMoveRows R.rules (terms_given stored.now.terms) stored.now.id game content →
+        FindsVerdict stored.now.id game content (state S.Store conn.old) →
         IsRecordOf R.rules (terms_given stored.now.terms) stored.now.id stored.now.row game →
         AddsNamed R.rules R.IsText names.now game (W.contents writer.old) (W.contents writer.new)) }
     ensures begun { HasCleanDisk (state S.Store conn.new) → (content : Content) (game : Game R.Move) →
         HasRows content (state S.Store conn.old) → FindsSeenRows R.rules stored.now.id game content →
         FindsMoveRows R.rules (terms_given stored.now.terms) stored.now.id game content →
+        FindsVerdict stored.now.id game content (state S.Store conn.old) →
         IsRecordOf R.rules (terms_given stored.now.terms) stored.now.id stored.now.row game →
         (writer.new ≡ writer.old) ⊎
         BeginsNamed R.rules R.IsText names.now game (W.contents writer.old) (W.contents writer.new) }

@@ -3,10 +3,9 @@
 ghost use Rattle.std.specs.Prelude.{◌≡◌, ℕ, Some, true, false, Err, IfOk, OnOk};
 ghost use Rattle.sqlite.specs.State.{HasCleanDisk};
 ghost use Rattle.sqlite.specs.Held.{state};
-ghost use Rattle.store_tables.specs.internal.Over.{HasRows};
 ghost use Rattle.store_tables.specs.Reading.{Reads};
 ghost use Rattle.club_core.specs.State.{place};
-ghost use Rattle.club_rows.specs.Club.{ClubGame, ClubState, IsClub, tables};
+ghost use Rattle.club_rows.specs.Club.{ClubGame, ClubState, IsClub, StoresClub};
 ghost use Rattle.club_answers.specs.internal.Exported.{no_call_failed, IsExported, IsWrittenSome};
 ghost use Rattle.club_changes.specs.internal.Stored.{IsStoredGame};
 
@@ -27,11 +26,11 @@ fn export_stored<S: Alter, W: Write>(
     ensures reads { Reads (no_call_failed result) (state S.Store conn.old) (state S.Store conn.new) }
     ensures written { HasCleanDisk (state S.Store conn.new) → OnOk result ((s : ClubState) (id : ℕ)
         (game : ClubGame) → IsClub s → place s.games id ≡ Some game → IsStoredGame s id game stored.now →
-        HasRows (tables s) (state S.Store conn.old) →
+        StoresClub s (state S.Store conn.old) →
         IsExported s id true (W.contents writer.old) (W.contents writer.new)) }
     ensures begun { HasCleanDisk (state S.Store conn.new) → (s : ClubState) (id : ℕ)
         (game : ClubGame) → IsClub s → place s.games id ≡ Some game → IsStoredGame s id game stored.now →
-        HasRows (tables s) (state S.Store conn.old) →
+        StoresClub s (state S.Store conn.old) →
         IsWrittenSome s id (W.contents writer.old) (W.contents writer.new) }
 {
     let names = names_of(alloc, conn, stored)?;
@@ -56,10 +55,10 @@ pub fn export_game<S: Alter, W: Write>(
 ) -> Result<bool, ViewFault>
     ensures reads { Reads (no_call_failed result) (state S.Store conn.old) (state S.Store conn.new) }
     ensures written { HasCleanDisk (state S.Store conn.new) → IfOk result (λ found. (s : ClubState) → IsClub s →
-        HasRows (tables s) (state S.Store conn.old) →
+        StoresClub s (state S.Store conn.old) →
         IsExported s game found (W.contents writer.old) (W.contents writer.new)) }
     ensures begun { HasCleanDisk (state S.Store conn.new) → (s : ClubState) → IsClub s →
-        HasRows (tables s) (state S.Store conn.old) →
+        StoresClub s (state S.Store conn.old) →
         IsWrittenSome s game (W.contents writer.old) (W.contents writer.new) }
 {
     match stored_game(alloc, conn, game)? {

@@ -3,9 +3,8 @@
 ghost use Rattle.std.specs.Prelude.{◌≡◌, IfOk, is_ok, map, string_bytes};
 ghost use Rattle.sqlite.specs.State.{HasCleanDisk};
 ghost use Rattle.sqlite.specs.Held.{state};
-ghost use Rattle.store_tables.specs.internal.Over.{HasRows};
 ghost use Rattle.store_tables.specs.Reading.{Reads};
-ghost use Rattle.club_rows.specs.Club.{ClubState, IsClub, StoresClub, tables};
+ghost use Rattle.club_rows.specs.Club.{ClubState, IsClub, StoresClub};
 ghost use Rattle.club_rows.specs.Tables.{version_of};
 ghost use Rattle.club_requests.specs.declared.questions.Question.TheVariants as question;
 ghost use Rattle.club_answers.specs.internal.Found.{IsFound, IsFoundAs};
@@ -19,6 +18,7 @@ use crate::challenge_lists::{challenge_lines, challenge_objects};
 use crate::lists::of_lists;
 use crate::member_answers::mine;
 use crate::pages::{clock, page};
+use crate::rulings::{ruling_lines, ruling_objects, ruling_orders};
 use crate::standings::standings;
 use crate::{cross_table_lines, legal_of};
 use clocks::Moment;
@@ -63,7 +63,7 @@ fn legal_moves<S: Alter>(
 ) -> Result<Shown, LookupFault>
     ensures reads { Reads (is_ok result) (state S.Store conn.old) (state S.Store conn.new) }
     ensures found { HasCleanDisk (state S.Store conn.new) → IfOk result (λ found. (s : ClubState) → IsClub s →
-        HasRows (tables s) (state S.Store conn.old) → IsFoundAs (IsLegalText s game) (IsNoGame s game) found) }
+        StoresClub s (state S.Store conn.old) → IsFoundAs (IsLegalText s game) (IsNoGame s game) found) }
 {
     match legal_of(alloc, conn, game)? {
         Some(texts) => Ok(Shown::Text(join_lines(alloc, &texts)?)),
@@ -153,6 +153,9 @@ pub(crate) fn read_answer<S: Alter>(
         Question::LegalMovesJson(game) => moves_body(alloc, conn, *game),
         Question::Board { game, letters } => board(alloc, conn, *game, *letters, moment),
         Question::EventRecords(_) => of_lists(alloc, version, conn, question, moment),
-        Question::Analysis(asked) => analysis(alloc, conn, asked),
+        Question::Analysis(asked) => analysis(alloc, version, conn, asked),
+        Question::Rulings(game) => ruling_lines(alloc, version, conn, *game),
+        Question::RulingsJson(game) => ruling_objects(alloc, version, conn, *game),
+        Question::RulingOrders(bulk) => ruling_orders(alloc, version, conn, bulk, moment),
     }
 }

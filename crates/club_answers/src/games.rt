@@ -1,6 +1,7 @@
 //! The entries of games in lists, from their rows.
 
-ghost use Rattle.std.specs.Prelude.{◌≡◌, ℕ, map, IfOk};
+ghost use Rattle.std.specs.Prelude.{◌≡◌, ℕ, map, IfOk, string_bytes};
+ghost use Rattle.squares.specs.Sides.{score_text};
 ghost use Rattle.std.specs.Option.{option_map};
 ghost use Rattle.club_core.specs.LegalState.{IsLegalIn};
 ghost use Rattle.club_rows.specs.Club.{ClubGame, ClubState, IsClub, both_games};
@@ -31,6 +32,16 @@ fn offering(offer: Option<Offer>) -> Option<Side>
     }
 }
 
+// The text of a score; a void game has none.
+fn score_text(alloc: Global, score: Option<Score>) -> Result<Option<String>, Memory>
+    ensures { IfOk result (λ text. option_map (λ t. string_bytes t) text ≡ option_map score_text score) }
+{
+    match score {
+        Some(score) => Ok(Some(String::from_str(alloc, score.text())?)),
+        None => Ok(None),
+    }
+}
+
 // The end of a game with this end and score; `None` if it is running.
 fn over_with(
     alloc: Global,
@@ -42,13 +53,10 @@ fn over_with(
     let Some(end) = end else {
         return Ok(None);
     };
-    match score {
-        Some(score) => Ok(Some(GameOver {
-            end: String::from_str(alloc, end)?,
-            result: String::from_str(alloc, score.text())?,
-        })),
-        None => Ok(None),
-    }
+    Ok(Some(GameOver {
+        end: String::from_str(alloc, end)?,
+        result: score_text(alloc, score)?,
+    }))
 }
 
 /// The entry of a game, from its row.

@@ -2,7 +2,7 @@
 
 ghost use Rattle.std.specs.Prelude.{◌≡◌, ◌⊎◌, ℕ, map, IfOk, OnOk, is_ok, Some, string_bytes};
 ghost use Rattle.club_core.specs.State.{place};
-ghost use Rattle.club_rows.specs.Club.{ClubGame, ClubState, IsClub, tables};
+ghost use Rattle.club_rows.specs.Club.{ClubGame, ClubState, IsClub, StoresClub, tables};
 ghost use Rattle.store_tables.specs.internal.Over.{HasRows};
 ghost use Rattle.store_tables.specs.Reading.{Reads};
 ghost use Rattle.sqlite.specs.State.{HasCleanDisk};
@@ -36,7 +36,7 @@ pub(crate) fn legal_in<S: Alter>(
     ensures reads { Reads (is_ok result) (state S.Store conn.old) (state S.Store conn.new) }
     ensures legal { HasCleanDisk (state S.Store conn.new) → IfOk result (λ texts. (s : ClubState) (id : ℕ)
         (game : ClubGame) → IsClub s → place s.games id ≡ Some game → IsStoredGame s id game stored.now →
-        HasRows (tables s) (state S.Store conn.old) → AreMovesOf game (map (λ t. string_bytes t) texts.items)) }
+        StoresClub s (state S.Store conn.old) → AreMovesOf game (map (λ t. string_bytes t) texts.items)) }
 {
     by_kind!(stored.kind, legal::<_, S>(alloc, conn, stored))
 }
@@ -50,7 +50,7 @@ pub(crate) fn played_in<S: Alter>(
     ensures reads { Reads (is_ok result) (state S.Store conn.old) (state S.Store conn.new) }
     ensures played { HasCleanDisk (state S.Store conn.new) → IfOk result (λ played. (s : ClubState) (id : ℕ)
         (game : ClubGame) → IsClub s → place s.games id ≡ Some game → IsStoredGame s id game stored.now →
-        HasRows (tables s) (state S.Store conn.old) → IsPlayedIn s game played) }
+        StoresClub s (state S.Store conn.old) → IsPlayedIn s game played) }
 {
     by_kind!(stored.kind, make_played::<_, S>(alloc, conn, stored))
 }
@@ -82,11 +82,11 @@ pub(crate) fn export_in<S: Alter, W: Write>(
     ensures reads { Reads (no_call_failed result) (state S.Store conn.old) (state S.Store conn.new) }
     ensures written { HasCleanDisk (state S.Store conn.new) → OnOk result ((s : ClubState) (id : ℕ)
         (game : ClubGame) → IsClub s → place s.games id ≡ Some game → IsStoredGame s id game stored.now →
-        HasRows (tables s) (state S.Store conn.old) →
+        StoresClub s (state S.Store conn.old) →
         AddsGame names.now game (W.contents writer.old) (W.contents writer.new)) }
     ensures begun { HasCleanDisk (state S.Store conn.new) → (s : ClubState) (id : ℕ)
         (game : ClubGame) → IsClub s → place s.games id ≡ Some game → IsStoredGame s id game stored.now →
-        HasRows (tables s) (state S.Store conn.old) → (writer.new ≡ writer.old) ⊎
+        StoresClub s (state S.Store conn.old) → (writer.new ≡ writer.old) ⊎
         BeginsGame names.now game (W.contents writer.old) (W.contents writer.new) }
 {
     by_kind!(

@@ -37,6 +37,7 @@ mod played_lines;
 mod read;
 mod reading;
 mod records;
+mod rulings;
 mod running;
 mod scored;
 mod standings;

@@ -3,6 +3,7 @@
 ghost use Rattle.std.specs.Prelude.{◌<◌, map, IfOk, is_ok};
 ghost use Rattle.std.specs.Prelude.{string_bytes};
 ghost use Rattle.club_core.specs.Game.{Game};
+ghost use Rattle.club_reads.specs.internal.Rulings.{FindsVerdict};
 ghost use Rattle.club_rows.specs.Listed.{AreLegalTexts};
 ghost use Rattle.club_rows.specs.internal.Replay.{terms_given};
 ghost use Rattle.sqlite.specs.State.{HasCleanDisk};
@@ -30,6 +31,7 @@ pub(crate) fn legal<R: Rules, S: Alter>(
     ensures legal { HasCleanDisk (state S.Store conn.new) →
         IfOk result (λ texts. (content : Content) (game : Game R.Move) →
         HasRows content (state S.Store conn.old) → FindsSeenRows R.rules stored.now.id game content →
+        FindsVerdict stored.now.id game content (state S.Store conn.old) →
         IsRecordOf R.rules (terms_given stored.now.terms) stored.now.id stored.now.row game →
         AreLegalTexts R.rules game (map (λ t. string_bytes t) texts.items)) }
 {

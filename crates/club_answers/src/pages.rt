@@ -4,10 +4,9 @@ ghost use Rattle.std.specs.Prelude.{◌≡◌, ℕ, IfOk, is_ok, Some, string_by
 ghost use Rattle.serde_json.specs.Written.{compact_text};
 ghost use Rattle.sqlite.specs.State.{HasCleanDisk};
 ghost use Rattle.sqlite.specs.Held.{state};
-ghost use Rattle.store_tables.specs.internal.Over.{HasRows};
 ghost use Rattle.store_tables.specs.Reading.{Reads};
 ghost use Rattle.club_core.specs.State.{place};
-ghost use Rattle.club_rows.specs.Club.{ClubGame, ClubState, IsClub, StoresClub, tables};
+ghost use Rattle.club_rows.specs.Club.{ClubGame, ClubState, IsClub, StoresClub};
 ghost use Rattle.club_rows.specs.Tables.{version_of};
 ghost use Rattle.club_changes.specs.internal.Stored.{IsStoredGame};
 ghost use Rattle.club_answers.specs.AnswerTexts.{IsClockText, IsNoGame};
@@ -82,7 +81,7 @@ fn game_page<S: Alter>(
     ensures reads { Reads (is_ok result) (state S.Store conn.old) (state S.Store conn.new) }
     ensures page { HasCleanDisk (state S.Store conn.new) → IfOk result (λ page. (s : ClubState) (id : ℕ)
         (game : ClubGame) → IsClub s → place s.games id ≡ Some game → IsStoredGame s id game stored.now →
-        HasRows (tables s) (state S.Store conn.old) → IsGamePage s id game page) }
+        StoresClub s (state S.Store conn.old) → IsGamePage s id game page) }
 {
     let viewed = viewed(alloc, conn, stored)?;
     let legal = legal_in(alloc, conn, stored)?;

@@ -9,7 +9,9 @@ ghost use Rattle.store_tables.specs.Reading.{Reads};
 ghost use Rattle.club_rules.specs.Line.{IsPlayedLine, position_after};
 ghost use Rattle.club_core.specs.Game.{Game};
 ghost use Rattle.club_analysis.specs.internal.Line.{IsLine};
+ghost use Rattle.club_rows.specs.Rulings.{ArePossible};
 ghost use Rattle.club_rows.specs.internal.Replay.{terms_given};
+ghost use Rattle.club_rows.specs.internal.Rulings.{rulings_given};
 ghost use Rattle.club_changes.specs.Steps.{IsRecordOf};
 ghost use Rattle.club_changes.specs.internal.Steps.{TellsLine};
 ghost use Rattle.club_answers.specs.internal.Analyses.{IsLineAt};
@@ -18,7 +20,9 @@ ghost use Rattle.club_analysis.specs.Tried.{notation_from};
 use crate::viewed::{line, texts};
 use club_analysis::{Line, line_of_moves};
 use club_changes::StoredGame;
+use club_core::GivenRuling;
 use club_reads::LookupFault;
+use club_rows::Opening;
 use club_rows::numbers::to_moment;
 use club_rows::replay::{Replayed, replay};
 use club_rules::Rules;
@@ -30,8 +34,10 @@ use store_tables::MoveRow;
 fn replayed<R: Rules>(
     alloc: Global,
     stored: &StoredGame,
+    rulings: &[GivenRuling],
     rows: &[MoveRow],
 ) -> Result<Replayed<R>, LookupFault>
+    requires { ArePossible (rulings_given rulings.now) }
     ensures played { IfOk result (λ game. IsPlayedLine R.rules R.rules.start game.line.items) }
     ensures position { IfOk result (λ game. game.position
         ≡ position_after R.rules R.rules.start game.line.items) }
@@ -39,10 +45,15 @@ fn replayed<R: Rules>(
     ensures texts { IfOk result (λ game. map (λ r. string_bytes r.text) rows.now
         ≡ notation_from R.rules R.rules.start game.line.items) }
 {
-    let Some(from) = to_moment(stored.row.start) else {
+    let Some(start) = to_moment(stored.row.start) else {
         return Err(LookupFault::Store);
     };
-    match replay::<R>(alloc, stored.terms, stored.id, from, rows)? {
+    let opening = Opening {
+        id: stored.id,
+        start,
+        terms: stored.terms,
+    };
+    match replay::<R>(alloc, opening, rulings, rows)? {
         Some(game) => Ok(game),
         None => Err(LookupFault::Store),
     }
@@ -54,7 +65,9 @@ pub(crate) fn line_at<R: Rules, S: Alter>(
     conn: &mut Connection<S>,
     stored: &StoredGame,
     ply: u64,
+    rulings: &[GivenRuling],
 ) -> Result<Option<Line<R>>, LookupFault>
+    requires { ArePossible (rulings_given rulings.now) }
     ensures reads { Reads (is_ok result) (state S.Store conn.old) (state S.Store conn.new) }
     ensures is_line { IfOk result (λ found. IfSome found (IsLine R.rules)) }
     ensures start { IfOk result (λ found. IfSome found (λ line. line.start ≡ R.rules.start)) }
@@ -72,6 +85,6 @@ pub(crate) fn line_at<R: Rules, S: Alter>(
     if ply > rows.len() as u64 {
         return Ok(None);
     }
-    let played = replayed::<R>(alloc, stored, &rows[..ply as usize])?;
+    let played = replayed::<R>(alloc, stored, rulings, &rows[..ply as usize])?;
     Ok(Some(line_of_moves(alloc, played.line, played.position)))
 }

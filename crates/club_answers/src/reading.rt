@@ -5,10 +5,9 @@ ghost use Rattle.std.specs.Prelude.{string_bytes};
 ghost use Rattle.std.specs.Option.{option_map};
 ghost use Rattle.sqlite.specs.State.{HasCleanDisk};
 ghost use Rattle.sqlite.specs.Held.{state};
-ghost use Rattle.store_tables.specs.internal.Over.{HasRows};
 ghost use Rattle.store_tables.specs.Reading.{Reads};
 ghost use Rattle.club_core.specs.State.{place};
-ghost use Rattle.club_rows.specs.Club.{ClubGame, ClubState, IsClub, tables};
+ghost use Rattle.club_rows.specs.Club.{ClubGame, ClubState, IsClub, StoresClub};
 ghost use Rattle.club_changes.specs.Stored.{AreLegalRows};
 ghost use Rattle.club_changes.specs.internal.Stored.{IsStoredGame};
 ghost use Rattle.club_answers.specs.Viewed.{IsViewOf, IsViewed};
@@ -34,7 +33,7 @@ pub fn legal_of<S: Alter>(
 ) -> Result<Option<Vec<String>>, LookupFault>
     ensures reads { Reads (is_ok result) (state S.Store conn.old) (state S.Store conn.new) }
     ensures rows { HasCleanDisk (state S.Store conn.new) → IfOk result (λ found. (s : ClubState) → IsClub s →
-        HasRows (tables s) (state S.Store conn.old) →
+        StoresClub s (state S.Store conn.old) →
         AreLegalRows s game (option_map (λ texts. map (λ t. string_bytes t) texts.items) found)) }
 {
     match stored_game(alloc, conn, game)? {
@@ -55,7 +54,7 @@ pub(crate) fn viewed<S: Alter>(
     ensures reads { Reads (is_ok result) (state S.Store conn.old) (state S.Store conn.new) }
     ensures viewed { HasCleanDisk (state S.Store conn.new) → IfOk result (λ viewed. (s : ClubState) (id : ℕ)
         (game : ClubGame) → IsClub s → place s.games id ≡ Some game → IsStoredGame s id game stored.now →
-        HasRows (tables s) (state S.Store conn.old) → IsViewOf s game viewed) }
+        StoresClub s (state S.Store conn.old) → IsViewOf s game viewed) }
 {
     let names = names_of(alloc, conn, stored)?;
     let played = played_in(alloc, conn, stored)?;
@@ -80,7 +79,7 @@ pub fn view_of<S: Alter>(
 ) -> Result<Option<ViewedGame>, LookupFault>
     ensures reads { Reads (is_ok result) (state S.Store conn.old) (state S.Store conn.new) }
     ensures viewed { HasCleanDisk (state S.Store conn.new) → IfOk result (λ found. (s : ClubState) → IsClub s →
-        HasRows (tables s) (state S.Store conn.old) → IsViewed s game found) }
+        StoresClub s (state S.Store conn.old) → IsViewed s game found) }
 {
     let found = stored_game(alloc, conn, game)?;
     match found {

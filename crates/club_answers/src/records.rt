@@ -5,9 +5,8 @@ ghost use Rattle.std.specs.Io.KnownBytes.{Appends};
 ghost use Rattle.record_writer.specs.Pieces.{AppendsSome};
 ghost use Rattle.sqlite.specs.State.{HasCleanDisk};
 ghost use Rattle.sqlite.specs.Held.{state};
-ghost use Rattle.store_tables.specs.internal.Over.{HasRows};
 ghost use Rattle.store_tables.specs.Reading.{Reads};
-ghost use Rattle.club_rows.specs.Club.{ClubState, IsClub, tables};
+ghost use Rattle.club_rows.specs.Club.{ClubState, IsClub, StoresClub};
 ghost use Rattle.club_answers.specs.internal.Exported.{no_call_failed};
 ghost use Rattle.club_answers.specs.EventRecords.{opening, BeginsRecords};
 ghost use Rattle.club_answers.specs.internal.Writing.{AddsRecord, BeginsRecord, HasRecords};
@@ -55,10 +54,10 @@ fn write_record_after<S: Alter, W: Write>(
 ) -> Result<(), ViewFault>
     ensures reads { Reads (no_call_failed result) (state S.Store conn.old) (state S.Store conn.new) }
     ensures written { HasCleanDisk (state S.Store conn.new) → OnOk result ((s : ClubState) → IsClub s →
-        HasRows (tables s) (state S.Store conn.old) →
+        StoresClub s (state S.Store conn.old) →
         AddsRecord s id front.now (W.contents writer.old) (W.contents writer.new)) }
     ensures begun { HasCleanDisk (state S.Store conn.new) → (s : ClubState) → IsClub s →
-        HasRows (tables s) (state S.Store conn.old) →
+        StoresClub s (state S.Store conn.old) →
         BeginsRecord s id front.now (W.contents writer.old) (W.contents writer.new) }
 {
     write_front(front, writer)?;
@@ -88,10 +87,10 @@ pub(crate) fn write_records<S: Alter, W: Write>(
 ) -> Result<Option<Refusal>, ViewFault>
     ensures reads { Reads (no_call_failed result) (state S.Store conn.old) (state S.Store conn.new) }
     ensures written { HasCleanDisk (state S.Store conn.new) → IfOk result (λ refusal. (s : ClubState) → IsClub s →
-        HasRows (tables s) (state S.Store conn.old) →
+        StoresClub s (state S.Store conn.old) →
         HasRecords s kind ids.now refusal (W.contents writer.old) (W.contents writer.new)) }
     ensures begun { HasCleanDisk (state S.Store conn.new) → (s : ClubState) → IsClub s →
-        HasRows (tables s) (state S.Store conn.old) →
+        StoresClub s (state S.Store conn.old) →
         BeginsRecords s kind ids.now (W.contents writer.old) (W.contents writer.new) }
 {
     let mut is_first = true;

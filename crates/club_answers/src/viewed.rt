@@ -6,6 +6,7 @@ ghost use Rattle.club_core.specs.Events as core;
 ghost use Rattle.club_core.specs.Game.{Game};
 ghost use Rattle.club_core.specs.Legal.{IsLegalGame};
 ghost use Rattle.club_core.specs.View.{Shows, terms_of};
+ghost use Rattle.club_reads.specs.internal.Rulings.{FindsVerdict};
 ghost use Rattle.club_rows.specs.internal.Replay.{terms_given};
 ghost use Rattle.club_rows.specs.Tables.{move_rows};
 ghost use Rattle.sqlite.specs.State.{HasCleanDisk};
@@ -48,7 +49,7 @@ pub struct GameProgress {
     pub offer: Option<Side>,
     /// How the game ended; `None` while it is running.
     pub end: Option<GameEnd<EndName>>,
-    /// The score; `None` while the game is running.
+    /// The score; `None` while the game is running, and if it is void.
     pub result: Option<Score>,
 }
 
@@ -122,6 +123,7 @@ fn named<R: Rules>(end: Option<GameEnd<R::End>>) -> Option<GameEnd<EndName>>
 {
     match end {
         Some(GameEnd::Rule(end)) => Some(GameEnd::Rule(R::end_name(&end))),
+        Some(GameEnd::Verdict(verdict)) => Some(GameEnd::Verdict(verdict)),
         Some(GameEnd::Outside(end)) => Some(GameEnd::Outside(end)),
         None => None,
     }
@@ -162,6 +164,7 @@ pub(crate) fn make_played<R: Rules, S: Alter>(
         (game : Game R.Move) → HasRows content (state S.Store conn.old) →
         FindsSeenRows R.rules stored.now.id game content →
         TellsLine R.rules (terms_given stored.now.terms) stored.now.id game content →
+        FindsVerdict stored.now.id game content (state S.Store conn.old) →
         IsRecordOf R.rules (terms_given stored.now.terms) stored.now.id stored.now.row game →
         IsPlayed R.rules (terms_given stored.now.terms) game played) }
 {

@@ -1,12 +1,12 @@
 -- The ids, the keys and the meetings of the games that rows show.
 use Rattle.std.proofs.Common.{◌≡◌, ℕ, zero, suc, pos, ◌+◌, ◌≤◌, List, [], ◌∷◌, ◌++◌, map, take, Option, Some, ap, sym}
 use Rattle.std.proofs.Common.{◌∙◌, arith, ◌*◌, ◌<◌, ◌^◌, length, None, refl, length-append}
-use Rattle.std.specs.Prelude.{slice_get, string_bytes}
+use Rattle.std.specs.Prelude.{ℤ, is_some, slice_get, string_bytes}
 use Rattle.std.specs.Option.{option_map}
 use Rattle.std.proofs.lemmas.Option.{same_Some}
 use Rattle.club_rules.specs.declared.names.GameKind.{GameKind}
 use Rattle.club_rules.specs.GameRules.{GameRules}
-use Rattle.club_core.specs.Game.{Game, result_of}
+use Rattle.club_core.specs.Game.{Game, end_of, result_of}
 use Rattle.club_core.specs.LegalState.{HaveUniqueKeysIfAny, IsGameOf, IsLegalIn}
 use Rattle.club_core.specs.State.{draughts, shogi, place, terms_at, key_of, pairing_of}
 use Rattle.store_tables.specs.Cells.{game_cells}
@@ -18,8 +18,10 @@ use Rattle.club_audit.proofs.PlacedLemmas.{numbered-at, numbered-back, head-is}
 use Rattle.club_rows.proofs.Proved.{columns-told, IsToldBy}
 use Rattle.std.specs.List.{flat_map}
 use Rattle.squares.specs.declared.sides.Score.{Score}
-use Rattle.club_rows.specs.Scores.{meetings_if, meetings_in}
-use Rattle.club_audit.specs.internal.Standings.{AreGamesOf, AreTold, Tells}
+use Rattle.club_core.specs.declared.rows.GameEnd.{GameEnd}
+use Rattle.club_rows.specs.Scores.{meetings_if, meetings_in, meetings_of}
+use Rattle.club_rows.specs.Tables.{end_name_text}
+use Rattle.club_audit.specs.internal.Standings.{AreGamesOf, AreTold, Tells, met_if}
 
 -- ---- lists
 
@@ -34,11 +36,28 @@ take-got (y ∷ ys) (suc i) x at = ap (λ zs. y ∷ zs) (take-got ys i x at)
 abbrev pub key_in : GameTableRow → Option (List ℕ)
 key_in r = option_map (λ s. string_bytes s) r.key
 
+ended-is : {A B C : Type 0} (f : A → C) (g : B → C) (a : Option A) (b : Option B) → option_map f a ≡ option_map g b
+    → is_some a ≡ is_some b
+ended-is f g None None is = refl
+ended-is f g (Some x) (Some y) is = refl
+ended-is f g a b is = cc
+
+met-is : {E : Type 0} (event first second : ℤ) (end : Option (GameEnd E)) (score : Option Score)
+    → meetings_if event first second end score ≡ met_if (is_some end) event first second score
+met-is event first second None score = refl
+met-is event first second (Some end) score = refl
+
 tells : {P M E T : Type 0} (rules : GameRules P M E T) (id : ℕ) (game : Game M) (row : GameTableRow)
-    → IsToldBy rules id game row → Tells row
-    (meetings_if (pos game.event) (pos game.first) (pos game.second) (result_of rules game))
+    → IsToldBy rules id game row → Tells row (meetings_of rules game)
 tells rules id game row told =
-    let ids = told.numbers in record { score = result_of rules game; result = told.result; met = cc }
+    let ids = told.numbers in
+    let ended = ended-is (λ s. string_bytes s) (end_name_text rules) row.end (end_of rules game) told.end in
+    let met = met-is (pos game.event) (pos game.first) (pos game.second) (end_of rules game) (result_of rules game) in
+    record {
+      score = result_of rules game;
+      result = told.result;
+      met = met ∙ rw (ended, ids.event, ids.first, ids.second) refl;
+    }
 
 -- the row has the game's id, its event and its players, its key, and its meetings
 pub record TellsGame (id : ℕ) (any : ClubGame) (row : GameTableRow) : Type 0 where
@@ -110,6 +129,7 @@ of-later s games m game low of = record {
   key = of.key;
   start = omega arith;
   entries = λ n e at. let most : e.moment ≤ s.last = of.entries n e at in omega (arith, most, low);
+  rulings = λ n r at. let most : r.moment ≤ s.last = of.rulings n r at in omega (arith, most, low);
   lost_by_time = λ lost. let late = of.lost_by_time lost in omega (arith, late, low);
 }
 
@@ -140,14 +160,14 @@ module _ (s : ClubState) where
       )
 
 -- a game is met by two at most
-few-met : (score : Option Score) (event first second : ℕ)
-    → length (meetings_if (pos event) (pos first) (pos second) score) ≤ 2
-few-met None event first second = omega arith
-few-met (Some score) event first second = omega arith
+few-met : {E : Type 0} (end : Option (GameEnd E)) (score : Option Score) (event first second : ℕ)
+    → length (meetings_if (pos event) (pos first) (pos second) end score) ≤ 2
+few-met None score event first second = omega arith
+few-met (Some end) score event first second = omega arith
 
 game-met : (any : ClubGame) → length (meetings_in both_games any) ≤ 2
-game-met (draughts g) = few-met (result_of both_games.draughts g) g.event g.first g.second
-game-met (shogi g) = few-met (result_of both_games.shogi g) g.event g.first g.second
+game-met (draughts g) = few-met (end_of both_games.draughts g) (result_of both_games.draughts g) g.event g.first g.second
+game-met (shogi g) = few-met (end_of both_games.shogi g) (result_of both_games.shogi g) g.event g.first g.second
 
 games-met : (games : List ClubGame) → length (flat_map (meetings_in both_games) games) ≤ 2 * length games
 games-met [] = omega arith

@@ -8,7 +8,7 @@ use Rattle.std.proofs.Math.ListN.{drop}
 use Rattle.std.proofs.lemmas.Bool.{cases_eq}
 use Rattle.sqlite.specs.Order.{Row}
 use Rattle.club_core.specs.Events.{Event}
-use Rattle.club_core.specs.LegalState.{Each, HaveUniqueKeys, IsLegalEvent}
+use Rattle.club_core.specs.LegalState.{Each, IsLegalEvent}
 use Rattle.club_requests.specs.Limits.{last_moment}
 use Rattle.store_tables.specs.Cells.{event_cells}
 use Rattle.store_tables.specs.internal.Cells.{closing_cells}

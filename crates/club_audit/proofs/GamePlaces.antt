@@ -11,6 +11,7 @@ use Rattle.club_core.specs.View.{Shows, terms_of}
 use Rattle.store_tables.specs.Cells.{seen_cells}
 use Rattle.store_tables.specs.declared.rows.GameTableRow.{GameTableRow}
 use Rattle.store_tables.specs.declared.rows.MoveRow.{MoveRow}
+use Rattle.store_tables.specs.declared.rows.RulingRow.{RulingRow}
 use Rattle.store_tables.specs.declared.rows.SeenRow.{SeenRow}
 use Rattle.store_tables.specs.declared.names.Table.{Table}
 use Rattle.store_tables.specs.declared.names.Table.TheVariants.{Games, Meta, Moves, Scores, Seen, Members, Events, Keys}
@@ -19,8 +20,9 @@ use Rattle.club_rows.specs.declared.view.CheckedRows.{CheckedRows}
 use Rattle.club_rows.specs.declared.view.CheckedGame.{CheckedGame}
 use Rattle.club_rows.specs.EachOnce.{AreEachOnce}
 use Rattle.club_rows.specs.Seen.{seen_rows}
-use Rattle.club_rows.specs.LegalRows.{AreMovesOf, AreRowsOf}
-use Rattle.club_rows.specs.internal.LegalRows.{IsSoundIfShown, ShowsGame}
+use Rattle.club_rows.specs.LegalRows.{AreMovesOf, AreRowsOf, AreRulingsOf}
+use Rattle.club_rows.specs.internal.LegalRows.{IsSoundIfShown, IsWrongAsTold, ShowsGame}
+use Rattle.club_rows.proofs.Proved.{rows-moves, rows-rulings}
 use Rattle.club_rows.proofs.Proved.{columns-told, same-pos, kinds-alike, Kind, declares-alike, in_draughts, in_shogi}
 use Rattle.club_audit.specs.Audit.{EndsBy, GivesTerms, terms_told}
 use Rattle.club_audit.specs.internal.Audit.{IsWithin, IsWithinGiven, AreAllOf, HasPeople}
@@ -46,38 +48,66 @@ use Rattle.store_tables.specs.declared.rows.Rows.{Rows}
 use Rattle.club_audit.proofs.AuditLemmas.{legal-later}
 use Rattle.club_rows.specs.declared.view.CheckedRows.TheVariants as checked
 
-module _ {P M E T : Type 0} (rules : GameRules P M E T) (terms : Terms) (row : GameTableRow) (moves : List MoveRow) where
+module _ {P M E T : Type 0} (rules : GameRules P M E T) (terms : Terms) (row : GameTableRow) (moves : List MoveRow) (rulings : List RulingRow) where
   -- the moves of a legal game are right
-  pub moves-of : (id : ℕ) (game : Game M) → AreRowsOf rules terms id row moves game → AreMovesOf rules terms row moves
-  moves-of id game are =
-      let told = columns-told rules terms id game row are.row in
-      inr (record {
-        id = id;
-        start = game.start;
-        id_is = told.numbers.id;
-        start_is = told.numbers.start;
-        short = are.fits.id;
-        within = are.fits.start;
-        game = game;
-        played = record { legal = are.legal; start = refl; moments = are.fits.entries; moves = are.moves };
-      })
+  pub moves-of : (id : ℕ) (game : Game M) → AreRowsOf rules terms id row moves rulings game → AreMovesOf rules terms row moves rulings
+  moves-of id game are = rows-moves rules terms row moves rulings id game are
+
+  -- and so are its rulings
+  pub rulings-of : (id : ℕ) (game : Game M) → AreRowsOf rules terms id row moves rulings game
+      → AreRulingsOf rules terms row moves rulings
+  rulings-of id game are = rows-rulings rules terms row moves rulings id game are
 
   -- the view shows a game of these rows, by these terms, and each game whose rows they are
   pub record IsShown {R : Type 0} (view : GameView R P M E T) : Type 0 where
     pub id : ℕ
     pub game : Game M
-    pub are : AreRowsOf rules terms id row moves game
+    pub are : AreRowsOf rules terms id row moves rulings game
     pub terms_are : terms_of view ≡ terms
     pub shows : Shows rules game view
-    pub complete : (n : ℕ) (g : Game M) → AreRowsOf rules terms n row moves g → Shows rules g view
+    pub complete : (n : ℕ) (g : Game M) → AreRowsOf rules terms n row moves rulings g → Shows rules g view
+
+  -- ---- rows that are not shown
+
+  module _ {R : Type 0} (told : CheckedRows R P M E T) (wrong : IsWrongAsTold rules terms row moves rulings told)
+      (seen : List SeenRow) (last : Option ℕ) where
+    abbrev First : Table → Type 0
+    First t = IsFirstWrong (IsRightIn rules terms last row moves rulings seen) (Some t)
+
+    pub wrong-moves : told ≡ checked.WrongMoves → First Moves
+    wrong-moves is =
+        let (possible, none) = subst (IsWrongAsTold rules terms row moves rulings) is wrong in
+        record {
+          before = up-to-moves (IsRightIn rules terms last row moves rulings seen) tt tt tt tt tt tt;
+          named = λ right. none (right possible);
+        }
+
+    pub wrong-rulings : told ≡ checked.WrongRulings → First Rulings
+    wrong-rulings is =
+        let (right, none) = subst (IsWrongAsTold rules terms row moves rulings) is wrong in
+        let Right = IsRightIn rules terms last row moves rulings seen in
+        record {
+          before = with-next Right Moves (up-to-moves Right tt tt tt tt tt tt) right;
+          named = none;
+        }
+
+    pub wrong-row : told ≡ checked.WrongGame → First Games
+    wrong-row is =
+        let (played, ruled, none) = subst (IsWrongAsTold rules terms row moves rulings) is wrong in
+        let Right = IsRightIn rules terms last row moves rulings seen in
+        record {
+          before = with-next Right Rulings
+              (with-next Right Moves (up-to-moves Right tt tt tt tt tt tt) (λ possible. played)) ruled;
+          named = λ have. none have.id have.game have.are;
+        }
 
   -- rows that are shown are so
   pub shown-by : {R : Type 0} (told : CheckedRows R P M E T) (played : CheckedGame R P M E T) → told ≡ checked.Game played
-      → IsSoundIfShown rules terms row moves told
-      → ((n : ℕ) (g : Game M) → AreRowsOf rules terms n row moves g → ShowsGame rules terms g told)
+      → IsSoundIfShown rules terms row moves rulings told
+      → ((n : ℕ) (g : Game M) → AreRowsOf rules terms n row moves rulings g → ShowsGame rules terms g told)
       → IsShown played.view
   shown-by told played is sound complete =
-      let (id, game, are, terms_are, shows, within, history) = subst (IsSoundIfShown rules terms row moves) is sound in
+      let (id, game, are, terms_are, shows, within, history) = subst (IsSoundIfShown rules terms row moves rulings) is sound in
       record {
         id = id;
         game = game;
@@ -88,42 +118,46 @@ module _ {P M E T : Type 0} (rules : GameRules P M E T) (terms : Terms) (row : G
       }
 
 module _ {R P M E T : Type 0} {rules : GameRules P M E T} {terms : Terms} {row : GameTableRow} {moves : List MoveRow}
-    {view : GameView R P M E T} (shown : IsShown rules terms row moves view) where
+    {rulings : List RulingRow}
+    {view : GameView R P M E T} (shown : IsShown rules terms row moves rulings view) where
   -- a game of these rows has the number of its row
-  numbered : (number n : ℕ) (game : Game M) → pos number ≡ row.id → AreRowsOf rules terms n row moves game → n ≡ number
+  numbered : (number n : ℕ) (game : Game M) → pos number ≡ row.id → AreRowsOf rules terms n row moves rulings game → n ≡ number
   numbered number n game is are =
       let told = columns-told rules terms n game row are.row in
       sym (same-pos number n (is ∙ told.numbers.id))
 
   -- and the game that is shown is the one with this number
-  pub own-rows : (number : ℕ) → pos number ≡ row.id → AreRowsOf rules terms number row moves shown.game
-  own-rows number is = subst (λ n. AreRowsOf rules terms n row moves shown.game)
+  pub own-rows : (number : ℕ) → pos number ≡ row.id → AreRowsOf rules terms number row moves rulings shown.game
+  own-rows number is = subst (λ n. AreRowsOf rules terms n row moves rulings shown.game)
       (numbered number shown.id shown.game is shown.are) shown.are
 
   module _ (seen : List SeenRow) (last : Option ℕ) where
     abbrev Right : Table → Type 0
-    Right = IsRightIn rules terms last row moves seen
+    Right = IsRightIn rules terms last row moves rulings seen
 
     -- the game ends by a moment exactly where its view is within it
-    ends : (n : ℕ) → IsWithin rules view n → EndsBy rules terms n shown.game
-    ends n = ends-by rules terms shown.game view shown.shows shown.terms_are n shown.are.legal
+    ends : (n : ℕ) → IsWithin rules view rulings n → EndsBy rules terms n shown.game
+    ends n = ends-by rules terms shown.game view shown.shows shown.terms_are shown.id rulings shown.are.rulings n
+        shown.are.legal
 
-    within-by : (n id : ℕ) (game : Game M) → AreRowsOf rules terms id row moves game → EndsBy rules terms n game
-        → IsWithin rules view n
-    within-by n id game are = view-within rules terms game view (shown.complete id game are) shown.terms_are n
+    within-by : (n id : ℕ) (game : Game M) → AreRowsOf rules terms id row moves rulings game → EndsBy rules terms n game
+        → IsWithin rules view rulings n
+    within-by n id game are = view-within rules terms game view (shown.complete id game are) shown.terms_are id
+        rulings are.rulings n
 
     -- the tables before the wrong one are right
     up-to-games : UpTo Right 8
     up-to-games = with-next Right Rulings (with-next Right Moves (up-to-moves Right tt tt tt tt tt tt)
-        (moves-of rules terms row moves shown.id shown.game shown.are)) tt
+        (λ possible. moves-of rules terms row moves rulings shown.id shown.game shown.are))
+        (rulings-of rules terms row moves rulings shown.id shown.game shown.are)
 
-    pub late-game : ¬ IsWithin rules view 253402300799 → IsFirstWrong Right (Some Games)
+    pub late-game : ¬ IsWithin rules view rulings 253402300799 → IsFirstWrong Right (Some Games)
     late-game late = record {
       before = up-to-games;
       named = λ have. late (within-by 253402300799 have.id have.game have.are have.within);
     }
 
-    module _ (within : IsWithin rules view 253402300799) where
+    module _ (within : IsWithin rules view rulings 253402300799) where
       up-to-seen : UpTo Right 9
       up-to-seen = with-next Right Games up-to-games (record {
         id = shown.id;
@@ -132,19 +166,19 @@ module _ {R P M E T : Type 0} {rules : GameRules P M E T} {terms : Terms} {row :
         within = ends 253402300799 within;
       })
 
-      pub wrong-seen : (number : ℕ) → pos number ≡ row.id → ((g : Game M) → AreRowsOf rules terms number row moves g
+      pub wrong-seen : (number : ℕ) → pos number ≡ row.id → ((g : Game M) → AreRowsOf rules terms number row moves rulings g
           → ¬ AreEachOnce (map seen_cells seen) (seen_rows rules number g)) → IsFirstWrong Right (Some Seen)
       wrong-seen number is other = record {
         before = up-to-seen;
         named = λ have.
             let same = numbered number have.id have.game is have.are in
-            other have.game (subst (λ n. AreRowsOf rules terms n row moves have.game) same have.are)
+            other have.game (subst (λ n. AreRowsOf rules terms n row moves rulings have.game) same have.are)
             (subst (λ n. AreEachOnce (map seen_cells seen) (seen_rows rules n have.game)) same have.seen_are);
       }
 
       module _ (number : ℕ) (is : pos number ≡ row.id)
           (stand : AreEachOnce (map seen_cells seen) (seen_rows rules number shown.game)) where
-        all-until : (n : ℕ) → IsWithin rules view n → HaveAll rules terms n row moves seen
+        all-until : (n : ℕ) → IsWithin rules view rulings n → HaveAll rules terms n row moves rulings seen
         all-until n low = record {
           id = number;
           game = shown.game;
@@ -156,14 +190,14 @@ module _ {R P M E T : Type 0} {rules : GameRules P M E T} {terms : Terms} {row :
         up-to-meta : UpTo Right 11
         up-to-meta = with-next Right Scores (with-next Right Seen up-to-seen (all-until 253402300799 within)) tt
 
-        pub late-end : ¬ IsWithinGiven rules view last → IsFirstWrong Right (Some Meta)
+        pub late-end : ¬ IsWithinGiven rules view rulings last → IsFirstWrong Right (Some Meta)
         late-end late = record {
           before = up-to-meta;
           named = λ all. late (λ n last_is low. let have = all n last_is low in
               within-by n have.id have.game have.are have.within);
         }
 
-        pub none-late : IsWithinGiven rules view last → IsFirstWrong Right None
+        pub none-late : IsWithinGiven rules view rulings last → IsFirstWrong Right None
         none-late in_time = record {
           before = λ t low. all-tables Right
               (with-next Right Meta up-to-meta (λ n last_is low. all-until n (in_time n last_is low))) t;
@@ -172,16 +206,17 @@ module _ {R P M E T : Type 0} {rules : GameRules P M E T} {terms : Terms} {row :
 
 -- ---- the last moment that there is, as one that is given
 
-module _ {R P M E T : Type 0} (rules : GameRules P M E T) (view : GameView R P M E T) where
-  pub given-last : (o : Option ℕ) → IfSome o (λ m. m ≡ 253402300799) → IsWithin rules view 253402300799
-      → IsWithinGiven rules view o
+module _ {R P M E T : Type 0} (rules : GameRules P M E T) (view : GameView R P M E T)
+    (rulings : List RulingRow) where
+  pub given-last : (o : Option ℕ) → IfSome o (λ m. m ≡ 253402300799) → IsWithin rules view rulings 253402300799
+      → IsWithinGiven rules view rulings o
   given-last None value within n is low = cc
-  given-last (Some m) value within n is low = subst (IsWithin rules view) (sym value ∙ same_Some m n is) within
+  given-last (Some m) value within n is low = subst (IsWithin rules view rulings) (sym value ∙ same_Some m n is) within
 
-  pub last-given : (o : Option ℕ) → IsSome o → IfSome o (λ m. m ≡ 253402300799) → IsWithinGiven rules view o
-      → IsWithin rules view 253402300799
+  pub last-given : (o : Option ℕ) → IsSome o → IfSome o (λ m. m ≡ 253402300799) → IsWithinGiven rules view rulings o
+      → IsWithin rules view rulings 253402300799
   last-given None some value given = cc
-  last-given (Some m) some value given = subst (IsWithin rules view) value (given m refl (omega (arith, value)))
+  last-given (Some m) some value given = subst (IsWithin rules view rulings) value (given m refl (omega (arith, value)))
 
 -- a game that ends by a moment ends by a later one
 ends-later : {P M E T : Type 0} (rules : GameRules P M E T) (terms : Terms) (n m : ℕ) (game : Game M) → n ≤ m
@@ -189,23 +224,24 @@ ends-later : {P M E T : Type 0} (rules : GameRules P M E T) (terms : Terms) (n m
 ends-later rules terms n m game low ends = record {
   start = omega arith;
   entries = λ k e at. let most = ends.entries k e at in omega arith;
+  rulings = λ k r at. let most = ends.rulings k r at in omega arith;
   lost_by_time = λ lost. let late = ends.lost_by_time lost in omega (arith, late, low);
 }
 
 -- the tables before that of moves are right, of whatever game
-pub early-of : (last : Option ℕ) (row : GameTableRow) (moves : List MoveRow) (seen : List SeenRow) (kind : GameKind)
-    (terms : Terms) → UpTo (IsRightOf kind terms last row moves seen) 6
-early-of last row moves seen Draughts terms =
-    up-to-moves (IsRightOf Draughts terms last row moves seen) tt tt tt tt tt tt
-early-of last row moves seen Shogi terms = up-to-moves (IsRightOf Shogi terms last row moves seen) tt tt tt tt tt tt
+pub early-of : (last : Option ℕ) (row : GameTableRow) (moves : List MoveRow) (rulings : List RulingRow) (seen : List SeenRow) (kind : GameKind)
+    (terms : Terms) → UpTo (IsRightOf kind terms last row moves rulings seen) 6
+early-of last row moves rulings seen Draughts terms =
+    up-to-moves (IsRightOf Draughts terms last row moves rulings seen) tt tt tt tt tt tt
+early-of last row moves rulings seen Shogi terms = up-to-moves (IsRightOf Shogi terms last row moves rulings seen) tt tt tt tt tt tt
 
-module _ (event : EventRow) (declares : Bool) (last : Option ℕ) (row : GameTableRow) (moves : List MoveRow)
+module _ (event : EventRow) (declares : Bool) (last : Option ℕ) (row : GameTableRow) (moves : List MoveRow) (rulings : List RulingRow)
     (seen : List SeenRow) where
   abbrev InEvent : Table → Type 0
-  InEvent = IsRightInEvent event declares last row moves seen
+  InEvent = IsRightInEvent event declares last row moves rulings seen
 
-  early : (t : Table) → order t < 6 → IsRightBy event declares last row moves seen t
-  early t low = λ kind b i is gives. early-of last row moves seen kind (terms_told b i declares) t low
+  early : (t : Table) → order t < 6 → IsRightBy event declares last row moves rulings seen t
+  early t low = λ kind b i is gives. early-of last row moves rulings seen kind (terms_told b i declares) t low
 
   no-events : ¬ GivesRules event → IsFirstWrong InEvent (Some Events)
   no-events none = record {
@@ -225,7 +261,7 @@ module _ (event : EventRow) (declares : Bool) (last : Option ℕ) (row : GameTab
   module _ (kind : GameKind) (budget increment : ℕ) (kind_is : event.game ≡ pos (kind_number kind))
       (gives : GivesTerms event budget increment) where
     abbrev Of : Table → Type 0
-    Of = IsRightOf kind (terms_told budget increment declares) last row moves seen
+    Of = IsRightOf kind (terms_told budget increment declares) last row moves rulings seen
 
     pub to-event : (t : Table) → Of t → InEvent t
     to-event Events right = record {
@@ -238,35 +274,35 @@ module _ (event : EventRow) (declares : Bool) (last : Option ℕ) (row : GameTab
     to-event t right = λ k b i is other.
         let one : budget ≡ b = cc in
         let two : increment ≡ i = cc in
-        subst₂ (λ x y. IsRightOf x y last row moves seen t) (kinds-alike kind k cc)
+        subst₂ (λ x y. IsRightOf x y last row moves rulings seen t) (kinds-alike kind k cc)
         (λ j. terms_told (one j) (two j) declares) right
 
     from-event : (t : Table) → InEvent t → Of t
     from-event Events right =
-        early-of last row moves seen kind (terms_told budget increment declares) Events (omega arith)
+        early-of last row moves rulings seen kind (terms_told budget increment declares) Events (omega arith)
     from-event _ right = right kind budget increment kind_is gives
 
     -- the first wrong table by its rules is the first of the event
     pub event-first : {Fault : Type 0} (terms : Terms) → terms ≡ terms_told budget increment declares
         → (told : Result (Option Table) Fault)
-        → IfOk told (IsFirstWrong (IsRightOf kind terms last row moves seen)) → IfOk told (IsFirstWrong InEvent)
+        → IfOk told (IsFirstWrong (IsRightOf kind terms last row moves rulings seen)) → IfOk told (IsFirstWrong InEvent)
     event-first terms same told = IfOk-weaker told _ _ (λ wrong first. first-as Of InEvent wrong to-event from-event
-        (subst (λ t. IsFirstWrong (IsRightOf kind t last row moves seen) wrong) same first))
+        (subst (λ t. IsFirstWrong (IsRightOf kind t last row moves rulings seen) wrong) same first))
 
 -- ---- where a last moment is given
 
 module _ (event : EventRow) (declares : Bool) (last : ℕ) (low : last ≤ 253402300799) (row : GameTableRow)
-    (moves : List MoveRow) (seen : List SeenRow) (wrong : Option Table)
-    (first : IsFirstWrong (IsRightInEvent event declares (Some last) row moves seen) wrong) where
+    (moves : List MoveRow) (rulings : List RulingRow) (seen : List SeenRow) (wrong : Option Table)
+    (first : IsFirstWrong (IsRightInEvent event declares (Some last) row moves rulings seen) wrong) where
   abbrev ByEvent : Table → Type 0
-  ByEvent = IsRightInEvent event declares (Some last) row moves seen
+  ByEvent = IsRightInEvent event declares (Some last) row moves rulings seen
 
-  all-of-kind : (kind : GameKind) (terms : Terms) → IsRightOf kind terms (Some last) row moves seen Meta
-      → HaveAllOf kind terms last row moves seen
+  all-of-kind : (kind : GameKind) (terms : Terms) → IsRightOf kind terms (Some last) row moves rulings seen Meta
+      → HaveAllOf kind terms last row moves rulings seen
   all-of-kind Draughts terms right = right last refl low
   all-of-kind Shogi terms right = right last refl low
 
-  pub event-sound : wrong ≡ None → AreOfEvent event declares last row moves seen
+  pub event-sound : wrong ≡ None → AreOfEvent event declares last row moves rulings seen
   event-sound none =
       let rules = all-right ByEvent wrong first none Events in
       let right = all-right ByEvent wrong first none Meta in
@@ -281,34 +317,35 @@ module _ (event : EventRow) (declares : Bool) (last : ℕ) (low : last ≤ 25340
       }
 
   module _ {P M E T : Type 0} (rules : GameRules P M E T) (terms : Terms)
-      (have : HaveAll rules terms last row moves seen) where
+      (have : HaveAll rules terms last row moves rulings seen) where
     later : EndsBy rules terms 253402300799 have.game
     later = ends-later rules terms last 253402300799 have.game low have.within
 
-    by-rules : (t : Table) → IsRightIn rules terms (Some last) row moves seen t
-    by-rules Moves = moves-of rules terms row moves have.id have.game have.are
+    by-rules : (t : Table) → IsRightIn rules terms (Some last) row moves rulings seen t
+    by-rules Moves = λ possible. moves-of rules terms row moves rulings have.id have.game have.are
+    by-rules Rulings = rulings-of rules terms row moves rulings have.id have.game have.are
     by-rules Games = record { id = have.id; game = have.game; are = have.are; within = later }
     by-rules Seen =
         record { id = have.id; game = have.game; are = have.are; within = later; seen_are = have.seen_are }
     by-rules Meta = λ n is most.
-        subst (λ k. HaveAll rules terms k row moves seen) (same_Some last n is) have
+        subst (λ k. HaveAll rules terms k row moves rulings seen) (same_Some last n is) have
     by-rules _ = tt
 
-  by-kind : (kind : GameKind) (terms : Terms) → HaveAllOf kind terms last row moves seen → (t : Table)
-      → IsRightOf kind terms (Some last) row moves seen t
+  by-kind : (kind : GameKind) (terms : Terms) → HaveAllOf kind terms last row moves rulings seen → (t : Table)
+      → IsRightOf kind terms (Some last) row moves rulings seen t
   by-kind Draughts terms have t = by-rules both_games.draughts terms have t
   by-kind Shogi terms have t = by-rules both_games.shogi terms have t
 
-  pub event-complete : AreOfEvent event declares last row moves seen → wrong ≡ None
+  pub event-complete : AreOfEvent event declares last row moves rulings seen → wrong ≡ None
   event-complete of =
       none-named ByEvent wrong first
-      (λ t. to-event event declares (Some last) row moves seen of.kind of.budget of.increment of.kind_is of.terms t
+      (λ t. to-event event declares (Some last) row moves rulings seen of.kind of.budget of.increment of.kind_is of.terms t
       (by-kind of.kind (terms_told of.budget of.increment declares) of.all t))
 
 module _ (s : ClubState) (rows : Rows) (people : HasPeople s rows) (index : ℕ) (row : GameTableRow)
-    (moves : List MoveRow) (seen : List SeenRow) (last : Option ℕ) where
+    (moves : List MoveRow) (rulings : List RulingRow) (seen : List SeenRow) (last : Option ℕ) where
   abbrev At : Table → Type 0
-  At = IsRightAt s rows index row moves seen last
+  At = IsRightAt s rows index row moves rulings seen last
 
   pub people-until : (n : ℕ) → HasPeople (until n s) rows
   people-until n = record { members = people.members; events = people.events; rules = people.rules }
@@ -317,17 +354,18 @@ module _ (s : ClubState) (rows : Rows) (people : HasPeople s rows) (index : ℕ)
   pub no-event : ((id : ℕ) (e : EventRow) → ¬ NamesEvent rows row id e) → IsFirstWrong At (Some Games)
   no-event none = record {
     before = with-next At Rulings (with-next At Moves (up-to-moves At tt tt tt tt tt tt)
-        (λ id e declares named ruled. absurd (none id e named))) tt;
+        (λ id e declares named ruled. absurd (none id e named)))
+        (λ id e declares named ruled. absurd (none id e named));
     named = λ it.
         let (low, g, is) = it in
-        let (id, e, named) = any-names (until 253402300799 s) rows (people-until 253402300799) index row moves g is in
+        let (id, e, named) = any-names (until 253402300799 s) rows (people-until 253402300799) index row moves rulings g is in
         none id e named;
   }
 
   module _ (id : ℕ) (e : EventRow) (declares : Bool) (named : NamesEvent rows row id e)
       (ruled : NamesRule rows row id declares) where
     abbrev In : Table → Type 0
-    In = IsRightInEvent e declares last row moves seen
+    In = IsRightInEvent e declares last row moves rulings seen
 
     -- the event gives a kind and terms
     rules-of : GivesRules e
@@ -348,17 +386,24 @@ module _ (s : ClubState) (rows : Rows) (people : HasPeople s rows) (index : ℕ)
         }
 
     -- there is no other, nor another rule
-    moves-at : In Moves → At Moves
-    moves-at right n f d other also =
+    same-rules : (t : Table) → IsRightBy e declares last row moves rulings seen t → (n : ℕ) (f : EventRow) (d : Bool)
+        → NamesEvent rows row n f → NamesRule rows row n d → IsRightBy f d last row moves rulings seen t
+    same-rules t right n f d other also =
         let event : e ≡ f = cc in
         let rule : ruled.rule ≡ also.rule = cc in
-        subst₂ (λ x y. IsRightBy x y last row moves seen Moves) event (declares-alike declares d (cc)) right
+        subst₂ (λ x y. IsRightBy x y last row moves rulings seen t) event (declares-alike declares d (cc)) right
+
+    moves-at : In Moves → At Moves
+    moves-at right = same-rules Moves right
+
+    rulings-at : In Rulings → At Rulings
+    rulings-at right = same-rules Rulings right
 
     -- the tables before that of moves are right
     early-in : UpTo In 6
     early-in Events low = rules-of
     early-in t low = λ kind b i kind_is gives.
-        early-of last row moves seen kind (terms_told b i declares) t low
+        early-of last row moves rulings seen kind (terms_told b i declares) t low
 
     -- ---- by the kind of the event
 
@@ -367,40 +412,42 @@ module _ (s : ClubState) (rows : Rows) (people : HasPeople s rows) (index : ℕ)
           (budget increment : ℕ) (kind_is : HasKind e kind) (gives : GivesTerms e budget increment) where
         -- what is right by the rules of this kind is right at its place
         to-place-in : (t : Table) → In t
-            → IsRightIn rules (terms_told budget increment declares) last row moves seen t → At t
+            → IsRightIn rules (terms_told budget increment declares) last row moves rulings seen t → At t
         to-place-in Moves event right = moves-at event
+        to-place-in Rulings event right = rulings-at event
         to-place-in Games event right =
             let is =
-            game-stands _ _ (people-until 253402300799) _ _ _ k _ _ _ _ _ named ruled gives kind_is stands right in
+            game-stands _ _ (people-until 253402300799) _ _ _ _ k _ _ _ _ _ named ruled gives kind_is stands right in
             (stands.low, k.into right.game, is.1)
         to-place-in Seen event right =
-            all-shown _ _ (people-until 253402300799) _ _ _ k _ _ _ _ _ named ruled gives kind_is stands seen right
+            all-shown _ _ (people-until 253402300799) _ _ _ _ k _ _ _ _ _ named ruled gives kind_is stands seen right
         to-place-in Meta event right = λ n is low.
-            all-shown _ _ (people-until n) _ _ _ k _ _ _ _ _ named ruled gives kind_is stands seen (right n is low)
+            all-shown _ _ (people-until n) _ _ _ _ k _ _ _ _ _ named ruled gives kind_is stands seen (right n is low)
         to-place-in _ event right = tt
 
-        -- and what is right there, but for its moves, is right by these rules
-        from-place-in : (t : Table) → t ≢ Moves → At t
-            → IsRightIn rules (terms_told budget increment declares) last row moves seen t
-        from-place-in Moves other right = absurd (other refl)
-        from-place-in Games other right =
-            game-had _ _ (people-until 253402300799) _ _ _ _ _ named k _ _ _ ruled gives kind_is stands.low
+        -- and what is right there, but for its moves and its rulings, is right by these rules
+        from-place-in : (t : Table) → t ≢ Moves → t ≢ Rulings → At t
+            → IsRightIn rules (terms_told budget increment declares) last row moves rulings seen t
+        from-place-in Moves other another right = absurd (other refl)
+        from-place-in Rulings other another right = absurd (another refl)
+        from-place-in Games other another right =
+            game-had _ _ (people-until 253402300799) _ _ _ _ _ _ named k _ _ _ ruled gives kind_is stands.low
             (omega arith) right.1 right.2
-        from-place-in Seen other right =
-            all-had _ _ (people-until 253402300799) _ _ _ _ _ named k _ _ _ ruled gives kind_is stands.low (omega arith)
+        from-place-in Seen other another right =
+            all-had _ _ (people-until 253402300799) _ _ _ _ _ _ named k _ _ _ ruled gives kind_is stands.low (omega arith)
             seen right.0 right.1
-        from-place-in Meta other right = λ n is low.
+        from-place-in Meta other another right = λ n is low.
             let (g, all) = right n is low in
-            all-had _ _ (people-until n) _ _ _ _ _ named k _ _ _ ruled gives kind_is stands.low low seen g all
-        from-place-in _ other right = tt
+            all-had _ _ (people-until n) _ _ _ _ _ _ named k _ _ _ ruled gives kind_is stands.low low seen g all
+        from-place-in _ other another right = tt
 
       to-place-of : (kind : GameKind) (budget increment : ℕ) → HasKind e kind → GivesTerms e budget increment
-          → (t : Table) → In t → IsRightOf kind (terms_told budget increment declares) last row moves seen t → At t
+          → (t : Table) → In t → IsRightOf kind (terms_told budget increment declares) last row moves rulings seen t → At t
       to-place-of Draughts b i kind_is gives = to-place-in in_draughts b i kind_is gives
       to-place-of Shogi b i kind_is gives = to-place-in in_shogi b i kind_is gives
 
       from-place-of : (kind : GameKind) (budget increment : ℕ) → HasKind e kind → GivesTerms e budget increment
-          → (t : Table) → t ≢ Moves → At t → IsRightOf kind (terms_told budget increment declares) last row moves seen t
+          → (t : Table) → t ≢ Moves → t ≢ Rulings → At t → IsRightOf kind (terms_told budget increment declares) last row moves rulings seen t
       from-place-of Draughts b i kind_is gives = from-place-in in_draughts b i kind_is gives
       from-place-of Shogi b i kind_is gives = from-place-in in_shogi b i kind_is gives
 
@@ -414,7 +461,8 @@ module _ (s : ClubState) (rows : Rows) (people : HasPeople s rows) (index : ℕ)
       from-place : (t : Table) → At t → In t
       from-place Events right = rules-of
       from-place Moves right = right id e declares named ruled
-      from-place t right = λ kind b i kind_is gives. from-place-of kind b i kind_is gives t (λ is. cc) right
+      from-place Rulings right = right id e declares named ruled
+      from-place t right = λ kind b i kind_is gives. from-place-of kind b i kind_is gives t (λ is. cc) (λ is. cc) right
 
       pub stands-first : (wrong : Option Table) → IsFirstWrong In wrong → IsFirstWrong At wrong
       stands-first wrong = first-as In At wrong to-place from-place
@@ -426,29 +474,46 @@ module _ (s : ClubState) (rows : Rows) (people : HasPeople s rows) (index : ℕ)
       named = λ right. first.named (right id e declares named ruled);
     }
 
-    moves-come : (wrong : Option Table) → IsFirstWrong In wrong → wrong ≢ Some Moves → Precedes Moves wrong
-    moves-come None first other = tt
-    moves-come (Some Moves) first other = absurd (other refl)
-    moves-come (Some t) first other = elim (cases_lt (order t) 6) [
+    -- and where its rulings are
+    pub rulings-first : IsFirstWrong In (Some Rulings) → IsFirstWrong At (Some Rulings)
+    rulings-first first = record {
+      before = with-next At Moves (up-to-moves At tt tt tt tt tt tt) (moves-at (first.before Moves (omega arith)));
+      named = λ right. first.named (right id e declares named ruled);
+    }
+
+    moves-come : (wrong : Option Table) → IsFirstWrong In wrong → wrong ≢ Some Moves → wrong ≢ Some Rulings
+        → Precedes Rulings wrong
+    moves-come None first other another = tt
+    moves-come (Some Moves) first other another = absurd (other refl)
+    moves-come (Some Rulings) first other another = absurd (another refl)
+    moves-come (Some t) first other another = elim (cases_lt (order t) 6) [
       | inl low ↦ absurd (first.named (early-in t low))
       | inr high ↦ omega arith
     ]
+
+    before-it : (wrong : Option Table) → Precedes Rulings wrong → Precedes Moves wrong
+    before-it None low = tt
+    before-it (Some t) low = omega (arith, low)
 
     -- with or without its place; a game without it is wrong, where its moves are not
     pub placed-first : (wrong result : Option Table) (stands : Bool) → IsFirstWrong In wrong
         → (stands ≡ true → StandsAt rows index row) → (StandsAt rows index row → stands ≡ true)
         → (stands ≡ true → result ≡ wrong) → (wrong ≡ Some Moves → result ≡ Some Moves)
-        → (stands ≡ false → wrong ≢ Some Moves → result ≡ Some Games) → IsFirstWrong At result
-    placed-first (Some Moves) result stands first sound complete kept has_moves has_games =
+        → (wrong ≡ Some Rulings → result ≡ Some Rulings)
+        → (stands ≡ false → wrong ≢ Some Moves → wrong ≢ Some Rulings → result ≡ Some Games) → IsFirstWrong At result
+    placed-first (Some Moves) result stands first sound complete kept has_moves has_rulings has_games =
         subst (IsFirstWrong At) (sym (has_moves refl)) (moves-first first)
-    placed-first wrong result stands first sound complete kept has_moves has_games = elim (cases_Bool stands) [
+    placed-first (Some Rulings) result stands first sound complete kept has_moves has_rulings has_games =
+        subst (IsFirstWrong At) (sym (has_rulings refl)) (rulings-first first)
+    placed-first wrong result stands first sound complete kept has_moves has_rulings has_games = elim (cases_Bool stands) [
       | inl is ↦ subst (IsFirstWrong At) (sym (kept is)) (stands-first (sound is) wrong first)
-      | inr other ↦ subst (IsFirstWrong At) (sym (has_games other (λ is. cc))) (record {
+      | inr other ↦ subst (IsFirstWrong At) (sym (has_games other (λ is. cc) (λ is. cc))) (record {
         before = with-next At Rulings (with-next At Moves (up-to-moves At tt tt tt tt tt tt)
-            (moves-at (first.before Moves (moves-come wrong first (λ is. cc))))) tt;
+            (moves-at (first.before Moves (before-it wrong (moves-come wrong first (λ is. cc) (λ is. cc))))))
+            (rulings-at (first.before Rulings (moves-come wrong first (λ is. cc) (λ is. cc))));
         named = λ it.
             let (low, g, is) = it in
-            let stand = any-stands (until 253402300799 s) rows (people-until 253402300799) index row moves g is low in
+            let stand = any-stands (until 253402300799 s) rows (people-until 253402300799) index row moves rulings g is low in
             true≢false (sym (complete stand) ∙ other);
       })
     ]
@@ -464,45 +529,58 @@ no-rule s rows people row id e named none =
 
 -- ---- a club's own game
 
-pub later-game : (s : ClubState) (m : ℕ) → s.last ≤ m → (id : ℕ) (row : GameTableRow) (moves : List MoveRow)
-    (g : ClubGame) → IsGameAt s id row moves g → IsGameAt (until m s) id row moves g
-later-game s m low id row moves g is =
-    record { legal = legal-later s s.games m low g is.legal; row_is = is.row_is; moves_are = is.moves_are }
+pub later-game : (s : ClubState) (m : ℕ) → s.last ≤ m → (id : ℕ) (row : GameTableRow) (moves : List MoveRow) (rulings : List RulingRow)
+    (g : ClubGame) → IsGameAt s id row moves rulings g → IsGameAt (until m s) id row moves rulings g
+later-game s m low id row moves rulings g is =
+    record {
+      legal = legal-later s s.games m low g is.legal;
+      row_is = is.row_is;
+      moves_are = is.moves_are;
+      rulings_are = is.rulings_are;
+    }
 
-pub later-all : (s : ClubState) (m : ℕ) → s.last ≤ m → (id : ℕ) (row : GameTableRow) (moves : List MoveRow)
-    (seen : List SeenRow) (g : ClubGame) → AreAllOf s id row moves seen g → AreAllOf (until m s) id row moves seen g
-later-all s m low id row moves seen g is =
-    record { at = later-game s m low id row moves g is.at; seen_are = is.seen_are }
+pub later-all : (s : ClubState) (m : ℕ) → s.last ≤ m → (id : ℕ) (row : GameTableRow) (moves : List MoveRow) (rulings : List RulingRow)
+    (seen : List SeenRow) (g : ClubGame) → AreAllOf s id row moves rulings seen g → AreAllOf (until m s) id row moves rulings seen g
+later-all s m low id row moves rulings seen g is =
+    record { at = later-game s m low id row moves rulings g is.at; seen_are = is.seen_are }
 
 module _ (s : ClubState) (rows : Rows) (people : HasPeople s rows) (index : ℕ) (row : GameTableRow)
-    (moves : List MoveRow) (seen : List SeenRow) (last : Option ℕ) (within : s.last ≤ 253402300799) where
-  module _ (low : index < 5000) (g : ClubGame) (at : IsGameAt s (index + 1) row moves g) (id : ℕ) (e : EventRow)
+    (moves : List MoveRow) (rulings : List RulingRow) (seen : List SeenRow) (last : Option ℕ) (within : s.last ≤ 253402300799) where
+  module _ (low : index < 5000) (g : ClubGame) (at : IsGameAt s (index + 1) row moves rulings g) (id : ℕ) (e : EventRow)
       (declares : Bool) (named : NamesEvent rows row id e) (ruled : NamesRule rows row id declares) where
     moves-in : {P M E T : Type 0} {rules : GameRules P M E T} {kind : GameKind} (k : Kind rules kind)
         (budget increment : ℕ) → HasKind e kind → GivesTerms e budget increment
-        → AreMovesOf rules (terms_told budget increment declares) row moves
+        → AreMovesOf rules (terms_told budget increment declares) row moves rulings
+        × AreRulingsOf rules (terms_told budget increment declares) row moves rulings
     moves-in {rules = rules} k b i kind_is gives =
         let have =
-        game-had s rows people index row moves id e named k b i declares ruled gives kind_is low within g at in
-        moves-of rules (terms_told b i declares) row moves have.id have.game have.are
+        game-had s rows people index row moves rulings id e named k b i declares ruled gives kind_is low within g at in (
+          moves-of rules (terms_told b i declares) row moves rulings have.id have.game have.are,
+          rulings-of rules (terms_told b i declares) row moves rulings have.id have.game have.are,
+        )
 
-    moves-right : IsRightBy e declares last row moves seen Moves
-    moves-right Draughts b i kind_is gives = moves-in in_draughts b i kind_is gives
-    moves-right Shogi b i kind_is gives = moves-in in_shogi b i kind_is gives
+    moves-right : IsRightBy e declares last row moves rulings seen Moves
+    moves-right Draughts b i kind_is gives = λ possible. (moves-in in_draughts b i kind_is gives).0
+    moves-right Shogi b i kind_is gives = λ possible. (moves-in in_shogi b i kind_is gives).0
+
+    rulings-right : IsRightBy e declares last row moves rulings seen Rulings
+    rulings-right Draughts b i kind_is gives = (moves-in in_draughts b i kind_is gives).1
+    rulings-right Shogi b i kind_is gives = (moves-in in_shogi b i kind_is gives).1
 
   -- all tables are right by the rows of a game of the club, up to its last moment
-  pub club-right : index < 5000 → (g : ClubGame) → AreAllOf s (index + 1) row moves seen g
-      → ((n : ℕ) → last ≡ Some n → s.last ≡ n) → (t : Table) → IsRightAt s rows index row moves seen last t
+  pub club-right : index < 5000 → (g : ClubGame) → AreAllOf s (index + 1) row moves rulings seen g
+      → ((n : ℕ) → last ≡ Some n → s.last ≡ n) → (t : Table) → IsRightAt s rows index row moves rulings seen last t
   club-right low g all moment Moves = moves-right low g all.at
+  club-right low g all moment Rulings = rulings-right low g all.at
   club-right low g all moment Games =
-      (low, g, later-game s 253402300799 within (index + 1) row moves g all.at)
-  club-right low g all moment Seen = (g, later-all s 253402300799 within (index + 1) row moves seen g all)
+      (low, g, later-game s 253402300799 within (index + 1) row moves rulings g all.at)
+  club-right low g all moment Seen = (g, later-all s 253402300799 within (index + 1) row moves rulings seen g all)
   club-right low g all moment Meta = λ n is most.
       let same = moment n is in
-      (g, later-all s n (omega (arith, same)) (index + 1) row moves seen g all)
+      (g, later-all s n (omega (arith, same)) (index + 1) row moves rulings seen g all)
   club-right low g all moment _ = tt
 
   -- and a club whose last moment is given has the game of rows by which all tables are right
-  pub right-club : last ≡ Some s.last → IsRightAt s rows index row moves seen last Meta → (g : ClubGame)
-      × AreAllOf s (index + 1) row moves seen g
+  pub right-club : last ≡ Some s.last → IsRightAt s rows index row moves rulings seen last Meta → (g : ClubGame)
+      × AreAllOf s (index + 1) row moves rulings seen g
   right-club is right = right s.last is within

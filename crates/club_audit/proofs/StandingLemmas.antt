@@ -1,8 +1,8 @@
 -- The sums of all pairs as games are counted, and when they and the rows of a table clear one another.
 use Rattle.std.proofs.Common.{◌≡◌, ℕ, zero, suc, ◌+◌, ◌<◌, ◌≤◌, ◌^◌, List, [], ◌∷◌, ◌++◌, length, map, drop, get_or}
-use Rattle.std.proofs.Common.{false, cond, Option, Some, None, refl, ap, sym, subst, ◌∙◌, arith}
+use Rattle.std.proofs.Common.{true, false, cond, Option, Some, None, refl, ap, sym, subst, ◌∙◌, arith}
 use Rattle.std.proofs.Common.{inl, inr, append_assoc, length-append}
-use Rattle.std.specs.Prelude.{slice_get, string_bytes}
+use Rattle.std.specs.Prelude.{is_some, slice_get, string_bytes}
 use Rattle.std.specs.Option.{option_map}
 use Rattle.std.specs.HashMap.{HashMap}
 use Rattle.std.specs.Map.{lookup}
@@ -19,9 +19,10 @@ use Rattle.store_tables.specs.internal.Cells.{score_cells}
 use Rattle.store_tables.specs.declared.rows.GameTableRow.{GameTableRow}
 use Rattle.store_tables.specs.declared.rows.ScoreRow.{ScoreRow}
 use Rattle.club_rows.specs.internal.NextScores.{Fit, gains_of, plus_sums, sums_over, sums_found, row_with}
-use Rattle.club_rows.specs.Scores.{Meeting, same_pair, scores_of, score_rows, own_first, own_second, meetings_if}
+use Rattle.club_rows.specs.Scores.{Meeting, same_pair, scores_of, score_rows, own_first, own_second}
 use Rattle.club_rows.specs.EachOnce.{AreEachOnce}
-use Rattle.club_audit.specs.internal.Standings.{AreStandings, AreTold, Clears, Tells, some_sums, sums_or_none, without}
+use Rattle.club_audit.specs.internal.Standings.{AreStandings, AreTold, Clears, Tells, met_if, some_sums, sums_or_none}
+use Rattle.club_audit.specs.internal.Standings.{without}
 use Rattle.club_rows.specs.internal.Pairs.{firsts_pair, pair_in, seconds_pair, sums_at}
 use Rattle.club_rows.specs.declared.scores.Pair.{Pair}
 use Rattle.club_rows.specs.declared.scores.OwnScore.{OwnScore}
@@ -96,12 +97,17 @@ module _ {S : Type 0} (old : HashMap Pair ScoreSums S) (pair : Pair) (own : OwnS
 -- ---- one game more
 
 -- what a row of a game that has ended tells
-pub told_some : (row : GameTableRow) (own : List Meeting) (score : Score) → Tells row own
+pub told_some : (row : GameTableRow) (own : List Meeting) (score : Option Score) → Tells row own
+    → is_some row.end ≡ true
     → ((other : Option Score) → option_map (λ s. string_bytes s) row.result ≡ option_map score_text other
-    → Some score ≡ other) → own ≡ meeting (firsts_pair row) (own_first score)
+    → score ≡ other) → own ≡ meeting (firsts_pair row) (own_first score)
     ∷ meeting (seconds_pair row) (own_second score) ∷ []
-told_some row own score told only = told.met
-    ∙ ap (meetings_if row.event row.first row.second) (sym (only told.score told.result))
+told_some row own score told ended only =
+    told.met ∙ λ i. met_if (ended i) row.event row.first row.second (sym (only told.score told.result) i)
+
+-- the row of a running game tells nothing
+pub told_none : (row : GameTableRow) (own : List Meeting) → Tells row own → is_some row.end ≡ false → own ≡ []
+told_none row own told running = told.met ∙ ap (λ b. met_if b row.event row.first row.second told.score) running
 
 module _ {S : Type 0} (old mid new : HashMap Pair ScoreSums S) (ms : List Meeting) (one other : Meeting) where
   pub both_added : (AreStandings old ms → length ms < 2 ^ 61 → AreStandings mid (ms ++ one ∷ []))

@@ -9,6 +9,7 @@ use Rattle.club_core.specs.LegalState.{Each}
 use Rattle.store_tables.specs.declared.rows.EventRow.{EventRow}
 use Rattle.store_tables.specs.declared.rows.MoveRow.{MoveRow}
 use Rattle.store_tables.specs.declared.rows.GameTableRow.{GameTableRow}
+use Rattle.store_tables.specs.declared.rows.RulingRow.{RulingRow}
 use Rattle.club_rows.specs.LegalRows.{AreRowsOf}
 
 -- ---- events
@@ -29,13 +30,14 @@ pub record EndsBy {P M E T : Type 0} (rules : GameRules P M E T) (terms : Terms)
   where
     pub start : game.start ≤ last
     pub entries : Each (λ e. e.moment ≤ last) game.entries
+    pub rulings : Each (λ r. r.moment ≤ last) game.rulings
     pub lost_by_time : game.outside ≡ Some Time
         → (clocks_of game terms).since + left_of (turn_of rules game) (clocks_of game terms) < last
 
 -- the rows are those of some legal game with these rules and terms, with timestamps up to `last`
 pub record HaveGame {P M E T : Type 0} (rules : GameRules P M E T) (terms : Terms) (last : ℕ) (row : GameTableRow)
-    (moves : List MoveRow) : Type 0 where
+    (moves : List MoveRow) (rulings : List RulingRow) : Type 0 where
   pub id : ℕ
   pub game : Game M
-  pub are : AreRowsOf rules terms id row moves game
+  pub are : AreRowsOf rules terms id row moves rulings game
   pub within : EndsBy rules terms last game

@@ -88,14 +88,18 @@ fn stands_at(rows: &Rows, place: usize, game: &GameTableRow) -> bool
     has_players(rows, game)
 }
 
-// Combines the first wrong table by the game's own rows with the check of its place: moves come before games.
+// Combines the first wrong table by the game's own rows with the check of its place: moves and rulings come before
+// games.
 fn with_place(wrong: Option<Table>, stands: bool) -> Option<Table>
     ensures stands { stands ≡ true → result ≡ wrong }
     ensures moves { wrong ≡ Some Table.Moves → result ≡ Some Table.Moves }
-    ensures games { stands ≡ false → wrong ≢ Some Table.Moves → result ≡ Some Table.Games }
+    ensures rulings { wrong ≡ Some Table.Rulings → result ≡ Some Table.Rulings }
+    ensures games { stands ≡ false → wrong ≢ Some Table.Moves → wrong ≢ Some Table.Rulings →
+        result ≡ Some Table.Games }
 {
     match wrong {
         Some(Table::Moves) => Some(Table::Moves),
+        Some(Table::Rulings) => Some(Table::Rulings),
         _ => { if stands { wrong } else { Some(Table::Games) } }
     }
 }
@@ -118,7 +122,8 @@ pub fn wrong_game(
     last: Option<Moment>,
 ) -> Result<Option<Table>, Memory>
     ensures { IfOk result (λ wrong. (s : ClubState) → HasPeople s rows.now →
-        IsFirstWrong (IsRightAt s rows.now place own.now.game.now own.now.moves.now own.now.seen.now last) wrong) }
+        IsFirstWrong (IsRightAt s rows.now place own.now.game.now own.now.moves.now own.now.rulings.now
+        own.now.seen.now last) wrong) }
 {
     let event = match event_of(rows, own.game) {
         Some(event) => event,

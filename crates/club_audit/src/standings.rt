@@ -49,7 +49,7 @@ fn add(standings: &mut HashMap<Pair, ScoreSums>, pair: Pair, score: OwnScore) ->
     }
 }
 
-// The score of a game. None while it runs, or if the text is no score.
+// The score of a game. None while it runs and if it is void, or if the text is no score.
 fn told_score(game: &GameTableRow) -> Option<Score>
     ensures { (score : Option Score) →
         option_map (λ s. string_bytes s) game.now.result ≡ option_map score_text score → result ≡ score }
@@ -65,8 +65,9 @@ fn add_game(standings: &mut HashMap<Pair, ScoreSums>, game: &GameTableRow) -> Re
     ensures { IfOk result (λ done. (ms own : List Meeting) → AreStandings standings.old ms → Tells game.now own →
         length (ms ++ own) < 2 ^ 61 → AreStandings standings.new (ms ++ own)) }
 {
-    match told_score(game) {
-        Some(score) => {
+    match &game.end {
+        Some(_) => {
+            let score = told_score(game);
             add(standings, firsts_pair(game), OwnScore::of_first(score))?;
             add(standings, seconds_pair(game), OwnScore::of_second(score))?;
             Ok(())

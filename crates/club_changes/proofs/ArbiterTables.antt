@@ -23,11 +23,10 @@ use Rattle.club_core.specs.Members.{Member, find_id}
 use Rattle.club_core.specs.Seats.{has_member_name}
 use Rattle.club_core.specs.State.{is_accepted, new_key, close_event, place, terms_at, with_events, with_members}
 use Rattle.club_core.specs.State.{draughts, shogi}
-use Rattle.club_laws.proofs.Proved.{WasClosed, WasKeyed, find_id-found, number-is, was-closed, was-keyed}
+use Rattle.club_laws.proofs.Proved.{WasKeyed, find_id-found, number-is, was-closed, was-keyed}
 use Rattle.club_rows.specs.Club.{ClubGame, ClubState, both_games}
-use Rattle.club_rows.specs.Tables.{number, numbered_from, game_row, move_rows, row_of_game, rows_of_moves}
+use Rattle.club_rows.specs.Tables.{numbered_from, game_row, move_rows, row_of_game, rows_of_moves}
 use Rattle.club_rows.specs.Tables.{closing_row, event_row, key_row, member_row, rows_of_closing, rows_of_keys, rule_row}
-use Rattle.club_changes.specs.declared.decided.CommandEffect.{CommandEffect}
 use Rattle.club_changes.specs.internal.Steps.{IsDecided, Puts, caller_step, no_rows}
 use Rattle.club_changes.proofs.ClubPlayed.{place_at}
 use Rattle.club_changes.proofs.OutcomeLemmas.{all_decided, answered_officer, moment_put, officer_stands}

@@ -25,14 +25,14 @@ use Rattle.club_core.specs.declared.seats.Pairing.{Pairing}
 use Rattle.club_core.specs.State.{place, kind_at, seated_as, with_challenge, with_answer}
 use Rattle.club_core.specs.State.{with_imported, challenge_game}
 use Rattle.club_rows.specs.Club.{both_games, ClubGame, ClubState, IsClub}
-use Rattle.club_rows.specs.Tables.{challenge_row, row_of_game, rows_of_moves}
+use Rattle.club_rows.specs.Tables.{challenge_row, row_of_game, rows_of_moves, rows_of_rulings}
 use Rattle.club_rows.proofs.Proved.{challenge-put, scores_seated, seen-added}
 use Rattle.store_tables.proofs.Proved.{altered}
 use Rattle.store_tables.specs.declared.rows.Changes.{Changes}
 use Rattle.club_changes.specs.declared.decided.CommandEffect.{CommandEffect}
 use Rattle.club_changes.specs.internal.Challenged.{PutsBegun, AnswersTo, standing_after, begun_games, begun_seen}
 use Rattle.club_changes.specs.internal.Steps.{Puts, PutRows, IsDecided, started, started_seen, started_scores, no_rows}
-use Rattle.club_changes.proofs.NextRows.{no_moves, first_of_game}
+use Rattle.club_changes.proofs.NextRows.{first_of_game, no_moves, no_rulings}
 use Rattle.club_changes.proofs.OutcomeLemmas.{all_decided, none_decided, moment_put}
 use Rattle.club_changes.proofs.PutSame.{◌&◌, if_same, same_itself, same_by, row_added, nothing_added}
 
@@ -103,7 +103,9 @@ module _ (s : ClubState) (is_club : IsClub s) (moment : ℕ) where
       & row_added (row_of_game both_games s.events) (first_of_game both_games s.events) s.games game
       & altered (0 ∷ 1 ∷ []) _ _ _ (seen-added both_games s.games game)
       & same_by _ _ (sym (scores_seated both_games s.games game running))
-      & same_itself _ & same_itself _ & same_itself _ & same_itself _ & tt)
+      & same_itself _ & same_itself _
+      & nothing_added rows_of_rulings s.games game (no_rulings both_games kind None p moment)
+      & same_itself _ & tt)
 
   -- an accepted answer is put
   pub answer_decided : (accept : Bool) (c : Challenge) (a : Answer) (changes : Changes)

@@ -1,9 +1,10 @@
 -- What rows that are put make of the tables.
-use Rattle.std.proofs.Common.{◌≡◌, ◌==◌, ℕ, ℤ, pos, List, [], ◌∷◌, Option, Some, None, refl, ap, sym, subst, ◌∙◌, map}
+use Rattle.std.proofs.Common.{◌≡◌, ◌==◌, ℕ, ℤ, pos, List, [], ◌∷◌, Option, Some, refl, ap, sym, subst, ◌∙◌, map}
 use Rattle.std.proofs.Common.{Bool, true, false, inl, inr}
 use Rattle.std.specs.Prelude.{if◌then◌else◌}
 use Rattle.sqlite.specs.Order.{Row}
-use Rattle.store_tables.specs.internal.Cells.{closing_cells, key_cells, ruling_cells}
+use Rattle.store_tables.specs.Cells.{ruling_cells}
+use Rattle.store_tables.specs.internal.Cells.{closing_cells, key_cells}
 use Rattle.store_tables.specs.internal.Changes.{put_rows}
 use Rattle.store_tables.specs.Contents.{Content}
 use Rattle.store_tables.specs.internal.Contents.{put_in, put_each}

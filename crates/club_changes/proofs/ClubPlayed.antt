@@ -3,18 +3,18 @@ use Rattle.std.proofs.Common.{◌≡◌, Bool, inl, inr, ℕ, zero, suc, ◌+◌
 use Rattle.std.proofs.Common.{Option, Some, None, refl, ap, sym, subst, ◌∙◌, arith}
 use Rattle.std.specs.Prelude.{slice_get, slice_set, IsTrue}
 use Rattle.squares.specs.declared.sides.Score.{Score}
-use Rattle.squares.specs.declared.sides.Side.TheVariants.{First}
 use Rattle.club_rules.specs.declared.names.GameKind.{GameKind}
 use Rattle.club_rules.specs.declared.names.GameKind.TheVariants.{Draughts, Shogi}
 use Rattle.club_rules.specs.GameRules.{GameRules}
 use Rattle.club_requests.specs.declared.answers.Outcome.TheVariants as given_is
+use Rattle.club_core.specs.declared.rows.GameEnd.{GameEnd}
 use Rattle.club_core.specs.declared.rows.GameRow.{GameRow}
 use Rattle.club_requests.specs.declared.requests.Caller.{Caller}
 use Rattle.club_requests.specs.Limits.{is_budget, is_increment}
 use Rattle.club_requests.specs.Outcome.{Outcome, accepted, repeated, refused, map_outcome}
 use Rattle.club_core.specs.Answer.{answered}
 use Rattle.club_core.specs.Events.{Event, Terms}
-use Rattle.club_core.specs.Game.{Game, clocks_of, result_of}
+use Rattle.club_core.specs.Game.{Game, clocks_of, end_of, result_of}
 use Rattle.club_core.specs.Legal.{IsLegalGame}
 use Rattle.club_core.specs.LegalState.{IsLegalEvent, IsLegalIn, IsGameOf}
 use Rattle.club_core.specs.Step.{GameCommand, no_game_refusal, game_step}
@@ -25,7 +25,8 @@ use Rattle.club_core.specs.View.{IsRowOf}
 use Rattle.club_laws.proofs.Proved.{in-place}
 use Rattle.club_rows.specs.internal.Made.{made_row}
 use Rattle.club_rows.specs.Scores.{Meeting, meetings_in, scores_in}
-use Rattle.club_rows.specs.Tables.{game_row, move_rows, number, row_of_game, rows_of_moves, rows_of_seen}
+use Rattle.club_rows.specs.Tables.{game_row, move_rows, number, row_of_game, rows_of_moves, rows_of_rulings, rows_of_seen}
+use Rattle.club_rows.specs.Tables.{ruling_rows}
 use Rattle.club_rows.proofs.Proved.{Kind, met_running, met_ended, scores_next, scores_stay, entry-alters, seen-stay}
 use Rattle.club_rows.proofs.Proved.{seen-table-set}
 use Rattle.store_tables.specs.Cells.{game_cells}
@@ -46,7 +47,7 @@ use Rattle.club_changes.proofs.PutSame.{◌&◌, same_by, same_itself, one_row_m
 use Rattle.club_changes.proofs.NextRows.{fresh, first_of_game}
 use Rattle.club_changes.proofs.OutcomeLemmas.{none_decided, answered_mapped, nothing_made, moment_put}
 use Rattle.club_changes.proofs.ChangedLemmas.{all_changed}
-use Rattle.club_changes.proofs.PlayedLemmas.{budget_most, since_within}
+use Rattle.club_changes.proofs.PlayedLemmas.{budget_most, clocks_within}
 
 -- ---- in a game of the club
 
@@ -83,7 +84,7 @@ module _ {P M E T : Type 0} {laws : GameRules P M E T} {kind : GameKind} (k : Ki
       → (clocks_of g terms).since ≤ s.last
   no_later id g terms at =
       let game = game_is id g at in
-      since_within terms.increment First g.entries _ s.last game.of.start game.of.entries
+      clocks_within g terms s.last game.of.start game.of.entries
 
 module _ {P M E T : Type 0} {laws : GameRules P M E T} {kind : GameKind} (k : Kind laws kind) (s : ClubState) where
   abbrev meets : Game M → List Meeting
@@ -91,40 +92,44 @@ module _ {P M E T : Type 0} {laws : GameRules P M E T} {kind : GameKind} (k : Ki
 
   -- the scores that are put make the table of the club with the game after the change
   module _ (n : ℕ) (g new : Game M) (at : slice_get s.games n ≡ Some (k.into g))
-      (running : result_of laws g ≡ None) where
+      (running : end_of laws g ≡ None) where
     none_before : meets g ≡ []
     none_before = k.scores g ∙ met_running laws g running
 
-    scores_by_result : (result : Option Score) (rows : List Row) → result_of laws new ≡ result
-        → PutsScoresOf (tables s 14) new.event new.first new.second result rows
+    pub scores_by_end : (end : Option (GameEnd E)) (score : Option Score) (rows : List Row) → end_of laws new ≡ end
+        → result_of laws new ≡ score → PutsScoresOf (tables s 14) new.event new.first new.second end score rows
         → HaveSame (put_rows (0 ∷ 1 ∷ 2 ∷ []) rows (scores_in both_games s.games))
         (scores_in both_games (slice_set s.games n (k.into new)))
-    scores_by_result None rows is none =
+    scores_by_end None score rows is result none =
         rw none (same_by _ _ (sym (scores_stay both_games s.games n (k.into g) (k.into new) at
         (k.scores new ∙ (met_running laws new is ∙ sym none_before)))))
-    scores_by_result (Some score) rows is put =
-        let after = k.scores new ∙ met_ended laws new score is in
+    scores_by_end (Some end) score rows is result put =
+        let after = k.scores new ∙ met_ended laws new end score is result in
         rw put.rows_are
         (altered (0 ∷ 1 ∷ 2 ∷ []) (score_cells put.pair.first ∷ score_cells put.pair.second ∷ []) _ _
         (scores_next both_games s.games new.event new.first new.second score put.firsts put.seconds put.pair
         put.firsts_are put.seconds_are put.next n (k.into g) (k.into new) at none_before after))
 
   -- the club with the game after a change
-  abbrev set_to : ℕ → ℕ → Game M → ClubState
+  abbrev pub set_to : ℕ → ℕ → Game M → ClubState
   set_to n moment new = record s { last = moment; games = slice_set s.games n (k.into new) }
 
   -- the row of a game is that of its event's terms
-  row_is : (n : ℕ) (g new : Game M) → new.event ≡ g.event
+  pub row_is : (n : ℕ) (g new : Game M) → new.event ≡ g.event
       → game_row laws (terms_at (place s.events g.event)) (1 + n) new
       ≡ row_of_game both_games s.events (1 + n) (k.into new)
   row_is n g new event = ap (λ e. game_row laws (terms_at (place s.events e)) (1 + n) new) (sym event)
       ∙ sym (k.row s.events (1 + n) new)
 
-  moves_of_it : (n : ℕ) (g new : Game M) → new.event ≡ g.event
+  pub moves_of_it : (n : ℕ) (g new : Game M) → new.event ≡ g.event
       → rows_of_moves both_games s.events (1 + n) (k.into new)
       ≡ move_rows laws (terms_at (place s.events g.event)) (1 + n) new
   moves_of_it n g new event =
       k.moves s.events (1 + n) new ∙ ap (λ e. move_rows laws (terms_at (place s.events e)) (1 + n) new) event
+
+  pub rulings_of_it : (n : ℕ) (g new : Game M) → ruling_rows (1 + n) new ≡ ruling_rows (1 + n) g
+      → rows_of_rulings (1 + n) (k.into new) ≡ rows_of_rulings (1 + n) (k.into g)
+  rulings_of_it n g new same = k.rulings (1 + n) new ∙ (same ∙ sym (k.rulings (1 + n) g))
 
   -- the rows that are put make the tables of the club with the game after the move
   put_at : (n moment : ℕ) (g new : Game M) (c : Changes) → slice_get s.games n ≡ Some (k.into g)
@@ -150,8 +155,10 @@ module _ {P M E T : Type 0} {laws : GameRules P M E T} {kind : GameKind} (k : Ki
       (seen-table-set both_games s n (k.into g) (k.into new) moment (p.seen ∷ []) at
       (rw (k.seen (1 + n) g, k.seen (1 + n) new)
       (entry-alters laws (1 + n) g new p.entry p.seen p.entries p.seen_is)))
-      & scores_by_result n g new at p.running (result_of laws new) p.scores refl p.scores_are
-      & same_itself _ & same_itself _ & same_itself _ & same_itself _ & tt)
+      & scores_by_end n g new at p.running (end_of laws new) (result_of laws new) p.scores refl refl p.scores_are
+      & same_itself _ & same_itself _
+      & rows_kept rows_of_rulings s.games n (k.into g) (k.into new) at (rulings_of_it n g new p.rulings)
+      & same_itself _ & tt)
 
   -- and so do those of a game that changes without a move
   change_at : (n moment : ℕ) (g new : Game M) (c : Changes) → slice_get s.games n ≡ Some (k.into g)
@@ -170,8 +177,10 @@ module _ {P M E T : Type 0} {laws : GameRules P M E T} {kind : GameKind} (k : Ki
       & row_replaced (row_of_game both_games s.events) (first_of_game both_games s.events) s.games n (k.into g)
       (k.into new) at
       & rows_kept (rows_of_seen both_games) s.games n (k.into g) (k.into new) at seen
-      & scores_by_result n g new at p.running (result_of laws new) p.scores refl p.scores_are
-      & same_itself _ & same_itself _ & same_itself _ & same_itself _ & tt)
+      & scores_by_end n g new at p.running (end_of laws new) (result_of laws new) p.scores refl refl p.scores_are
+      & same_itself _ & same_itself _
+      & rows_kept rows_of_rulings s.games n (k.into g) (k.into new) at (rulings_of_it n g new p.rulings)
+      & same_itself _ & tt)
 
   put_game : (id moment : ℕ) (g : Game M) → place s.games id ≡ Some (k.into g)
       → (o : Outcome (Game M)) (c : Option Changes)

@@ -5,18 +5,22 @@ use Rattle.std.proofs.lemmas.List.{take-append-drop}
 use Rattle.std.specs.Prelude.{ℤ}
 use Rattle.std.specs.List.{flat_map}
 use Rattle.squares.specs.declared.sides.Score.{Score}
-use Rattle.club_core.specs.Game.{result_of}
+use Rattle.club_core.specs.declared.rows.GameEnd.{GameEnd}
+use Rattle.club_core.specs.Game.{end_of, result_of}
 use Rattle.club_core.specs.State.{draughts, shogi}
 use Rattle.club_rows.specs.Club.{ClubGame, both_games}
 use Rattle.club_rows.specs.Scores.{meetings_if, meetings_in}
 
-result_few : (event first second : ℤ) (result : Option Score) → length (meetings_if event first second result) ≤ 2
-result_few event first second None = omega arith
-result_few event first second (Some score) = omega arith
+result_few : {E : Type 0} (event first second : ℤ) (end : Option (GameEnd E)) (score : Option Score)
+    → length (meetings_if event first second end score) ≤ 2
+result_few event first second None score = omega arith
+result_few event first second (Some end) score = omega arith
 
 game_few : (g : ClubGame) → length (meetings_in both_games g) ≤ 2
-game_few (draughts g) = result_few (pos g.event) (pos g.first) (pos g.second) (result_of both_games.draughts g)
-game_few (shogi g) = result_few (pos g.event) (pos g.first) (pos g.second) (result_of both_games.shogi g)
+game_few (draughts g) = result_few (pos g.event) (pos g.first) (pos g.second)
+    (end_of both_games.draughts g) (result_of both_games.draughts g)
+game_few (shogi g) = result_few (pos g.event) (pos g.first) (pos g.second)
+    (end_of both_games.shogi g) (result_of both_games.shogi g)
 
 pub meets_few : (games : List ClubGame) → length (flat_map (meetings_in both_games) games) ≤ 2 * length games
 meets_few [] = omega arith

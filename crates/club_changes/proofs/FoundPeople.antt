@@ -17,11 +17,9 @@ use Rattle.std.proofs.lemmas.Option.{same_Some}
 use Rattle.sqlite_rules.specs.Lists.{Has}
 use Rattle.club_core.specs.Events.{Event}
 use Rattle.club_core.specs.Members.{Member, find_id}
-use Rattle.club_core.specs.State.{place, caller_found, has_member_key, is_key}
-use Rattle.club_requests.specs.declared.requests.Caller.{Caller}
-use Rattle.club_requests.specs.declared.requests.Caller.TheVariants as caller
+use Rattle.club_core.specs.State.{place, is_key}
 use Rattle.club_laws.proofs.Proved.{bytes_eq-same, same-bytes_eq, find_id-found, find_id-none}
-use Rattle.club_rows.specs.Club.{ClubState, IsClub, tables}
+use Rattle.club_rows.specs.Club.{ClubState, tables}
 use Rattle.club_rows.specs.Tables.{numbered_from, number, member_row, event_row, rule_row}
 use Rattle.store_tables.specs.internal.Cells.{member_cells}
 use Rattle.store_tables.specs.declared.rows.MemberRow.{MemberRow}

@@ -127,6 +127,7 @@ module _ (s : ClubState) (is_club : IsClub s) where
           key = game.of.key;
           start = omega (arith, game.of.start, last);
           entries = λ n e stands. let before = game.of.entries n e stands in omega (arith, before, last);
+          rulings = λ n r stands. let before = game.of.rulings n r stands in omega (arith, before, last);
         };
         row = cells ∙ k.row s.events id old;
       }
@@ -212,7 +213,7 @@ pub stored_decided : {P M E T : Type 0} {laws : GameRules P M E T} {kind : GameK
     (s : ClubState) → IsClub s → (id : ℕ) (game : ClubGame) (stored : StoredGame) (moment : ℕ) (who : Caller)
     (command : GameCommand) (d : CommandEffect) → s.last ≤ moment → place s.games id ≡ Some game
     → IsStoredGame s id game stored → stored.kind ≡ kind
-    → ((old : Game M) → FindsSeenRows laws stored.id old (tables s)
+    → ((old : Game M) → place s.games stored.id ≡ Some (k.into old) → FindsSeenRows laws stored.id old (tables s)
     → FindsMoveRows laws (terms_given stored.terms) stored.id old (tables s)
     → IsRecordOf laws (terms_given stored.terms) stored.id stored.row old
     → (clocks_of old (terms_given stored.terms)).since ≤ moment
@@ -225,7 +226,8 @@ stored_decided {laws = laws} k s is_club id game stored moment who command d lat
     let tells = subst (λ i. FindsSeenRows laws i g (tables s)) (sym is.id_is) (tells-seen k s id g of.here) in
     let plays = subst₂ (λ t i. FindsMoveRows laws t i g (tables s)) (sym of.terms) (sym is.id_is)
     (tells_moves k s id g of.here) in
-    let decided = step g tells plays of.is_row (omega (arith, since, later)) in
+    let there = subst (λ i. place s.games i ≡ Some (k.into g)) (sym is.id_is) of.here in
+    let decided = step g there tells plays of.is_row (omega (arith, since, later)) in
     decided_club k s id moment who command g d of.here
     (subst₂ (λ t i. IsDecidedIn laws t i moment (tables s 14) g (game_step laws t g moment who command) d) of.terms
     is.id_is decided)

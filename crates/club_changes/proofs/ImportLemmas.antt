@@ -5,6 +5,8 @@ use Rattle.std.specs.Prelude.{if◌then◌else◌}
 use Rattle.std.proofs.lemmas.Bool.{eq-eqb}
 use Rattle.sqlite.specs.Order.{Row}
 use Rattle.squares.specs.declared.draughts.moves.DMove.{DMove}
+use Rattle.squares.specs.declared.sides.Score.{Score}
+use Rattle.squares.specs.declared.sides.Side.{Side}
 use Rattle.squares.specs.declared.shogi.moves.SMove.{SMove}
 use Rattle.club_rules.specs.declared.names.GameKind.{GameKind}
 use Rattle.club_rules.specs.declared.names.GameKind.TheVariants.{Draughts, Shogi}
@@ -22,8 +24,9 @@ use Rattle.club_requests.specs.declared.requests.Caller.{Caller}
 use Rattle.club_requests.specs.declared.requests.Caller.TheVariants.{Officer, Member}
 use Rattle.club_core.specs.Answer.{outcome_of, answered}
 use Rattle.club_core.specs.internal.Answer.{members_of, event_of, events_of}
+use Rattle.club_core.specs.declared.rows.GameEnd.{GameEnd}
 use Rattle.club_core.specs.Events.{Terms, Event, event_kind, event_declares, has_event_name}
-use Rattle.club_core.specs.Game.{Game}
+use Rattle.club_core.specs.Game.{Game, score_with}
 use Rattle.club_core.specs.Imports.{Import, Imported, imported, has_part, reading_of_import, repeat_of_import, read_in}
 use Rattle.club_core.specs.Imports.{import_tests, import_refusal, import_between, import_found}
 use Rattle.club_core.specs.LegalState.{IsLegalIn}
@@ -108,7 +111,7 @@ abbrev pub imports_shogi : ImportsOf in_shogi shogi_records
 imports_shogi =
     record { of_kind = λ a. shogi_in a; none = refl; same = λ g. refl; other = other_shogi; step = λ s m i. refl }
 
-kinds_decide : (a b : GameKind) → (a ≡ b) ⊎ (a ≢ b)
+pub kinds_decide : (a b : GameKind) → (a ≡ b) ⊎ (a ≢ b)
 kinds_decide Draughts Draughts = inl refl
 kinds_decide Shogi Shogi = inl refl
 kinds_decide Draughts Shogi = inr (λ is. cc)
@@ -190,10 +193,11 @@ module _ {P M E T : Type 0} {laws : GameRules P M E T} {kind : GameKind} (k : Ki
         let n = 1 + length s.games in
         let next : length s.games + 1 ≡ n = omega arith in
         let put = p.scores_are in
-        game_more s (k.into new) moment c p.scores
+        game_more s (k.into new) moment c p.scores (λ id. k.rulings id new)
         (rw put.rows_are
-        (scores_added both_games s.games new.event new.first new.second p.score put.firsts put.seconds put.pair
-        put.firsts_are put.seconds_are put.next (k.into new) (k.scores new ∙ met_ended laws new p.score p.ended)))
+        (scores_added both_games s.games new.event new.first new.second (Some p.score) put.firsts put.seconds put.pair
+        put.firsts_are put.seconds_are put.next (k.into new)
+        (k.scores new ∙ met_ended laws new p.end (Some p.score) p.ended p.result)))
         (rw (k.row s.events n new, k.moves s.events n new, k.seen n new) (rw next at p.puts))
 
     put_import : (who : Caller) (look : Outcome (Imported M)) (c : Option Changes)
@@ -223,6 +227,12 @@ module _ {P M E T : Type 0} {laws : GameRules P M E T} {kind : GameKind} (k : Ki
           makes = subst (λ x. Makes s (state_after s x) d.changes) (sym step)
               (put_import who look d.changes found.puts);
         }
+
+-- a game with a result has ended
+pub ended_with : {P M E T : Type 0} (laws : GameRules P M E T) (o : Option (GameEnd E)) (turn : Side) (score : Score)
+    → score_with laws o turn ≡ Some score → (end : GameEnd E) × (o ≡ Some end)
+ended_with laws (Some end) turn score is = (end, refl)
+ended_with laws None turn score is = cc
 
 -- ---- by what the program answers
 

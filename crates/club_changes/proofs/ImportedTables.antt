@@ -7,8 +7,8 @@ use Rattle.club_rules.specs.GameRules.{GameRules}
 use Rattle.club_core.specs.Events.{Event, Terms}
 use Rattle.club_core.specs.Game.{Game}
 use Rattle.club_core.specs.State.{draughts, shogi, place, terms_at, with_imported}
-use Rattle.club_rows.specs.Club.{ClubGame, ClubState, both_games, tables}
-use Rattle.club_rows.specs.Tables.{move_rows, row_of_game, rows_of_moves, rows_of_seen}
+use Rattle.club_rows.specs.Club.{ClubGame, ClubState, both_games}
+use Rattle.club_rows.specs.Tables.{move_rows, row_of_game, rows_of_moves, rows_of_rulings, rows_of_seen}
 use Rattle.club_rows.specs.Scores.{scores_in}
 use Rattle.club_rows.proofs.Proved.{gathered-added, seen-added}
 use Rattle.store_tables.specs.internal.Changes.{Alters}
@@ -20,7 +20,7 @@ use Rattle.club_changes.proofs.ChangedLemmas.{all_changed}
 use Rattle.club_changes.proofs.NextRows.{move_rows_had, first_of_game, moves_had}
 use Rattle.club_changes.proofs.OutcomeLemmas.{moment_put}
 use Rattle.club_changes.proofs.PlacedRows.{moves-placed}
-use Rattle.club_changes.proofs.PutSame.{◌&◌, had_at, numbers_same, row_added, same_itself}
+use Rattle.club_changes.proofs.PutSame.{◌&◌, had_at, nothing_added, numbers_same, row_added, same_itself}
 
 -- no two rows of the moves of a game have one ply
 rows_apart : {P M E T : Type 0} (laws : GameRules P M E T) (terms : Terms) (id : ℕ) (game : Game M) (z w : Row)
@@ -44,6 +44,7 @@ moves_apart events id (shogi g) = rows_apart both_games.shogi (terms_at (place e
 
 -- Where the rows of a game are put, the tables are those of the club with that game more.
 pub game_more : (s : ClubState) (new : ClubGame) (moment : ℕ) (c : Changes) (scores : List Row)
+    → ((id : ℕ) → rows_of_rulings id new ≡ [])
     → Alters (0 ∷ 1 ∷ 2 ∷ []) scores (scores_in both_games s.games) (scores_in both_games (s.games ++ new ∷ []))
     → Puts c moment
     (record no_rows {
@@ -53,7 +54,7 @@ pub game_more : (s : ClubState) (new : ClubGame) (moment : ℕ) (c : Changes) (s
       scores = scores;
     })
     → Makes s (with_imported s moment new) (Some c)
-game_more s new moment c scores put are =
+game_more s new moment c scores unruled put are =
     let moves = rows_of_moves both_games s.events in
     all_changed s (with_imported s moment new) c moment _ are (inr (refl, refl, refl))
     (moment_put s moment
@@ -63,4 +64,6 @@ game_more s new moment c scores put are =
     & row_added (row_of_game both_games s.events) (first_of_game both_games s.events) s.games new
     & altered (0 ∷ 1 ∷ []) _ _ _ (seen-added both_games s.games new)
     & altered (0 ∷ 1 ∷ 2 ∷ []) _ _ _ put
-    & same_itself _ & same_itself _ & same_itself _ & same_itself _ & tt)
+    & same_itself _ & same_itself _
+    & nothing_added rows_of_rulings s.games new unruled
+    & same_itself _ & tt)

@@ -17,9 +17,12 @@ use Rattle.club_requests.specs.declared.outside_end.OutsideEnd.TheVariants.{Time
 use Rattle.club_core.specs.Events.{Event, Terms}
 use Rattle.club_core.specs.Game.{Game, left_of, clocks_of, turn_of, rule_end, end_of, end_with, result_of}
 use Rattle.club_core.specs.Game.{score_with}
+use Rattle.club_core.specs.Rulings.{verdict_of}
+use Rattle.std.specs.Prelude.{Option}
+use Rattle.std.specs.Option.{option_map}
 use Rattle.club_core.specs.State.{draughts, shogi, place, terms_at, is_late_any, swept_any}
 use Rattle.club_core.specs.Step.{is_late, ended, swept}
-use Rattle.club_core.proofs.Proved.{AreRules, not-some, no-rule-end, turn-of-game, score-none}
+use Rattle.club_core.proofs.Proved.{AreRules, not-some, no-rule-end, turn-of-game, verdict-alone}
 use Rattle.club_games.specs.internal.DraughtsLaws.{draughts-numbers_are_few}
 use Rattle.club_games.specs.internal.ShogiLaws.{shogi-numbers_are_few}
 use Rattle.club_rows.specs.Club.{ClubGame, ClubState, IsClub, both_games}
@@ -27,9 +30,10 @@ use Rattle.club_rows.specs.internal.Columns.{Columns, IsReadAs, columns_of, stor
 use Rattle.club_rows.specs.internal.LegalRows.{IsRecordOf}
 use Rattle.club_rows.specs.Scores.{Meeting, meetings, meetings_of, meetings_in}
 use Rattle.club_rows.specs.Tables.{end_name_text, game_row}
-use Rattle.club_rows.specs.Tables.{row_of_game, rows_of_moves, rows_of_seen, gathered_from}
+use Rattle.club_rows.specs.Tables.{row_of_game, rows_of_moves, rows_of_rulings, rows_of_seen, gathered_from}
+use Rattle.club_rows.specs.Tables.{ruling_rows}
 use Rattle.club_rows.proofs.Proved.{columns-are, draughts_laws, in_draughts, in_shogi, met_ended, met_running}
-use Rattle.club_rows.proofs.Proved.{none-read, shogi_laws}
+use Rattle.club_rows.proofs.Proved.{none-read, rulings-stay, shogi_laws}
 use Rattle.store_tables.specs.Cells.{game_cells}
 use Rattle.store_tables.specs.declared.rows.GameTableRow.{GameTableRow}
 use Rattle.club_changes.specs.internal.Ended.{cells_lost}
@@ -47,6 +51,10 @@ then_none : {A : Type 0} (b : Bool) (x : A) → (if b then Some x else None) ≡
 then_none true x is = cc
 then_none false x is = refl
 
+some-mapped : {A B : Type 0} (f : A → B) (o : Option A) → is_some (option_map f o) ≡ is_some o
+some-mapped f None = refl
+some-mapped f (Some x) = refl
+
 -- ---- what a game's row tells of a sweep
 
 -- a game with these columns that has not ended is late and ends so; what it meets, and its row, where it has ended
@@ -56,7 +64,7 @@ pub record IsLost (late : Bool) (c : Columns) (met met_after : List Meeting) (ro
   pub cells : cells_lost row score ≡ row_after
   pub apart : c.first ≢ c.second
   pub running : met ≡ []
-  pub meets : met_after ≡ meetings (pos c.event) (pos c.first) (pos c.second) score
+  pub meets : met_after ≡ meetings (pos c.event) (pos c.first) (pos c.second) (Some score)
 
 -- the side that the columns show as late, or none, tells whether the game is late
 pub record TellsLate (moment : ℕ) (late : Bool) (c : Columns) (met met_after : List Meeting) (row_after : Row)
@@ -90,18 +98,21 @@ module _ {P M E T : Type 0} (laws : GameRules P M E T) (are : AreRules laws) (ev
   side_is : late_side its_columns moment ≡ (if late then Some turn else None)
   side_is =
       let clocks = clocks_of game its_terms in
-      ap (λ side. if not (is_some (result_of laws game)) && nat_lt (left_of side clocks) (moment - clocks.since)
-      then Some side else None) (sym (turn-of-game laws are.turn_passes are.first_starts game is.legal.line.legal))
+      let side = sym (turn-of-game laws are.turn_passes are.first_starts game is.legal.line.legal) in
+      let over = some-mapped (end_name_text laws) (end_of laws game) in
+      λ i. if not (over i) && nat_lt (left_of (side i) clocks) (moment - clocks.since) then Some (side i) else None
 
-  end_is : result_of laws game ≡ None → end_of laws (ended game Time) ≡ Some (Outside Time)
-  end_is running = ap (λ e. end_with e (Some Time))
-      (no-rule-end (rule_end laws game) game.outside (score-none laws (end_of laws game) turn running))
+  end_is : end_of laws game ≡ None → end_of laws (ended game Time) ≡ Some (Outside Time)
+  end_is running =
+      let no_rule = no-rule-end (rule_end laws game) (verdict_of game.rulings) game.outside running in
+      let no_verdict = verdict-alone (rule_end laws game) (verdict_of game.rulings) game.outside running in
+      λ i. end_with (no_rule i) (no_verdict i) (Some Time)
 
-  result_is : result_of laws game ≡ None → result_of laws (ended game Time) ≡ Some (loses turn)
+  result_is : end_of laws game ≡ None → result_of laws (ended game Time) ≡ Some (loses turn)
   result_is running = ap (λ e. score_with laws e turn) (end_is running)
 
   -- the cells of its end are put into the row
-  lost_cells : result_of laws game ≡ None → cells_lost row (loses turn) ≡ row_of (ended game Time)
+  lost_cells : end_of laws game ≡ None → cells_lost row (loses turn) ≡ row_of (ended game Time)
   lost_cells running =
       let end = ap (or_null (λ e. Text (end_name_text laws e))) (sym (end_is running)) in
       let result = ap (or_null (λ score. Text (score_text score))) (sym (result_is running)) in
@@ -110,14 +121,15 @@ module _ {P M E T : Type 0} (laws : GameRules P M E T) (are : AreRules laws) (ev
   is_lost : late ≡ true → IsLost late its_columns (meetings_of laws game) (meetings_of laws game_after)
       (row_of game_after) row (loses turn)
   is_lost late_is =
-      let running = not-some (result_of laws game) (not-true _ (and_parts _ _ late_is).0) in
+      let running = not-some (end_of laws game) (not-true _ (and_parts _ _ late_is).0) in
       let now : game_after ≡ ended game Time = ap (λ b. if b then ended game Time else game) late_is in
       record {
         late_is = late_is;
         cells = lost_cells running ∙ ap row_of (sym now);
         apart = is.legal.players;
         running = met_running laws game running;
-        meets = ap (meetings_of laws) now ∙ met_ended laws (ended game Time) (loses turn) (result_is running);
+        meets = ap (meetings_of laws) now
+            ∙ met_ended laws (ended game Time) (Outside Time) (Some (loses turn)) (end_is running) (result_is running);
       }
 
   tells : (c : Columns) → game_cells row ≡ stored_cells c
@@ -181,7 +193,26 @@ gathered_stay rows after same id (x ∷ xs) =
     let rest = gathered_stay rows after same (suc id) xs in
     λ i. here i ++ rest i
 
--- a sweep leaves the tables of members, events, challenges, moves and positions as they are
+-- a game that a sweep ends has no verdict, so that the rows of its rulings stay
+ruled_stay : {P M E T : Type 0} (laws : GameRules P M E T) (terms : Terms) (id moment : ℕ) (game : Game M) (late : Bool)
+    → is_late laws terms game moment ≡ late
+    → ruling_rows id (if late then ended game Time else game) ≡ ruling_rows id game
+ruled_stay laws terms id moment game true late =
+    let running = not-some (end_of laws game) (not-true _ (and_parts _ _ late).0) in
+    rulings-stay id 1 (Some Time) game.outside game.rulings
+    (verdict-alone (rule_end laws game) (verdict_of game.rulings) game.outside running)
+ruled_stay laws terms id moment game false late = refl
+
+swept_rulings : (s : ClubState) (moment id : ℕ) (g : ClubGame)
+    → rows_of_rulings id (swept_any both_games s moment g) ≡ rows_of_rulings id g
+swept_rulings s moment id (draughts game) =
+    ruled_stay both_games.draughts (terms_at (place s.events game.event)) id moment game
+    (is_late_any both_games s moment (draughts game)) refl
+swept_rulings s moment id (shogi game) =
+    ruled_stay both_games.shogi (terms_at (place s.events game.event)) id moment game
+    (is_late_any both_games s moment (shogi game)) refl
+
+-- a sweep leaves the tables of members, events, challenges, moves, positions and rulings as they are
 pub leaves_others : (s : ClubState) (moment : ℕ) → LeavesOthers s moment
 leaves_others s moment = record {
   members_stay = refl;
@@ -190,11 +221,11 @@ leaves_others s moment = record {
   challenges_stay = refl;
   moves_stay = gathered_stay (rows_of_moves both_games s.events) (swept_any both_games s moment)
       (λ id. swept_keeps s moment (rows_of_moves both_games s.events id)
-      (λ g. rows_stay both_games.draughts (terms_at (place s.events g.event)) id (ended g Time) g refl refl)
-      (λ g. rows_stay both_games.shogi (terms_at (place s.events g.event)) id (ended g Time) g refl refl)) 1 s.games;
+      (λ g. rows_stay both_games.draughts (terms_at (place s.events g.event)) id (ended g Time) g refl refl refl)
+      (λ g. rows_stay both_games.shogi (terms_at (place s.events g.event)) id (ended g Time) g refl refl refl)) 1 s.games;
   seen_stays = gathered_stay (rows_of_seen both_games) (swept_any both_games s moment)
       (λ id. swept_keeps s moment (rows_of_seen both_games id) (λ g. refl) (λ g. refl)) 1 s.games;
   keys_stay = refl;
-  rulings_stay = refl;
+  rulings_stay = gathered_stay rows_of_rulings (swept_any both_games s moment) (swept_rulings s moment) 1 s.games;
   closings_stay = refl;
 }

@@ -8,6 +8,7 @@ pub mod FoundLemmas
 pub mod FoundMoves
 pub mod FoundPeople
 pub mod GameRows
+pub mod GivenRulings
 pub mod ImportLemmas
 pub mod ImportedTables
 pub mod LateGames
@@ -21,6 +22,7 @@ pub mod Proved
 pub mod PutSame
 pub mod ReadRows
 pub mod RoomLemmas
+pub mod RuledClub
 pub mod SeenTexts
 pub mod StandingLemmas
 pub mod StoredLemmas

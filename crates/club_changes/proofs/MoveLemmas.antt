@@ -51,7 +51,7 @@ module _ {P M E T : Type 0} (rules : GameRules P M E T) (ms : List M) (i : ℕ) 
     es = entries_at_once moment (take i ms)
 
     abbrev game : Game M
-    game = game_from moment es
+    game = game_from [] moment es
 
     entries-more : entries_at_once moment (take (i + 1) ms) ≡ es ++ made ∷ []
     entries-more = ap (entries_at_once moment) one-more
@@ -98,11 +98,11 @@ module _ {P M E T : Type 0} (rules : GameRules P M E T) (ms : List M) (i : ℕ) 
           → row ≡ number id ∷ number (i + 1) ∷ Text (rules.write_move p m) ∷ number moment ∷ number left
           ∷ Text (rules.write_position q) ∷ []
           → (new ≡ rows_at_once rules terms id moment (take (i + 1) ms))
-          × (clocks_with c d moment ≡ clocks_of (game_from moment (entries_at_once moment (take (i + 1) ms))) terms)
+          × (clocks_with c d moment ≡ clocks_of (game_from [] moment (entries_at_once moment (take (i + 1) ms))) terms)
       ply-next old new row had more is_row = (
-        more ∙ (λ j. had j ++ (is_row ∙ row-is) j ∷ []) ∙ sym (rows-append rules terms id (game_from moment []) es made)
-            ∙ ap (λ l. move_rows rules terms id (game_from moment l)) (sym entries-more),
-        clocks-then ∙ ap (λ l. clocks_of (game_from moment l) terms) (sym entries-more),
+        more ∙ (λ j. had j ++ (is_row ∙ row-is) j ∷ []) ∙ sym (rows-append rules terms id (game_from [] moment []) es made)
+            ∙ ap (λ l. move_rows rules terms id (game_from [] moment l)) (sym entries-more),
+        clocks-then ∙ ap (λ l. clocks_of (game_from [] moment l) terms) (sym entries-more),
       )
 
 -- ---- the game of a record
@@ -112,8 +112,8 @@ module _ {P M E T : Type 0} (rules : GameRules P M E T) (terms : Terms) (id : �
   pub game-moves : rows_at_once rules terms id moment r.moves ≡
       move_rows rules terms id (imported rules key pairing moment r)
   game-moves =
-      rows-alike rules terms id (game_from moment []) (record (imported rules key pairing moment r) { entries = [] })
-      (entries_at_once moment r.moves) refl refl
+      rows-alike rules terms id (game_from [] moment []) (record (imported rules key pairing moment r) { entries = [] })
+      (entries_at_once moment r.moves) refl refl refl
 
   pub game-seen : rows_of_texts id (map rules.write_position (positions rules rules.start r.moves))
       ≡ seen_rows rules id (imported rules key pairing moment r)

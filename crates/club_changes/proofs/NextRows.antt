@@ -17,7 +17,7 @@ use Rattle.club_laws.proofs.Proved.{place-append}
 use Rattle.club_rows.proofs.Proved.{plies_in}
 pub use Rattle.club_changes.proofs.PlacedRows.{entry_rows_at}
 use Rattle.club_rows.specs.Tables.{number, game_row, entry_rows, move_rows, at_start, with_entry, row_of_game}
-use Rattle.club_rows.specs.Tables.{rows_of_moves}
+use Rattle.club_rows.specs.Tables.{rows_of_moves, rows_of_rulings}
 use Rattle.store_tables.specs.Content.{same_key}
 use Rattle.club_changes.proofs.PutSame.{pairs_apart}
 
@@ -77,6 +77,12 @@ module _ {DP DM DE DT SP SM SE ST : Type 0} (kinds : ClubRules DP DM DE DT SP SM
       → rows_of_moves kinds events id (seated_as kind key pairing moment) ≡ []
   no_moves events Draughts key pairing moment id = refl
   no_moves events Shogi key pairing moment id = refl
+
+  -- and no ruling
+  pub no_rulings : (kind : GameKind) (key : Option (List ℕ)) (pairing : Pairing) (moment id : ℕ)
+      → rows_of_rulings {DM = DM} {SM = SM} id (seated_as kind key pairing moment) ≡ []
+  no_rulings Draughts key pairing moment id = refl
+  no_rulings Shogi key pairing moment id = refl
 
   -- the key of a later ply is that of no row
   pub fresh : (s : State DM SM) (n : ℕ) (old : AnyGame DM SM) (row : Row) (ply : ℕ) → slice_get s.games n ≡ Some old

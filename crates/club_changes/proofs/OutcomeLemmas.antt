@@ -27,7 +27,7 @@ use Rattle.club_core.specs.State.{place, with_members, with_events, with_new_gam
 use Rattle.club_core.proofs.Proved.{none-holds}
 use Rattle.club_laws.proofs.Proved.{unmoved, not-false, three-true}
 use Rattle.sqlite.specs.Order.{Row}
-use Rattle.club_rows.specs.Tables.{member_row, event_row, rule_row, row_of_game, rows_of_moves, meta_row}
+use Rattle.club_rows.specs.Tables.{member_row, event_row, meta_row, row_of_game, rows_of_moves, rows_of_rulings, rule_row}
 use Rattle.club_rows.specs.Tables.{rows_of_closing, rows_of_keys, version_of}
 use Rattle.store_tables.specs.Tables.{schema_number}
 use Rattle.store_tables.specs.declared.rows.Changes.{Changes}
@@ -39,11 +39,10 @@ use Rattle.club_changes.specs.Steps.{HaveSame}
 use Rattle.club_changes.specs.internal.Steps.{Puts, PutRows, no_rows, IsDecided, Makes}
 use Rattle.club_rows.proofs.Proved.{scores_seated, seen-added}
 use Rattle.store_tables.proofs.Proved.{altered}
-use Rattle.store_tables.specs.internal.Changed.{changed}
 use Rattle.store_tables.specs.internal.Content.{put}
 use Rattle.club_changes.proofs.PutSame.{◌&◌, same_itself, same_by, one_replaced, row_added, nothing_added}
 use Rattle.club_changes.proofs.PutSame.{numbered_alike, gathered_alike}
-use Rattle.club_changes.proofs.NextRows.{first_of_game, rows_before, no_moves}
+use Rattle.club_changes.proofs.NextRows.{first_of_game, no_moves, no_rulings, rows_before}
 use Rattle.club_changes.proofs.ChangedLemmas.{all_changed, with_rows}
 
 -- the row of `meta` of the club with this last timestamp
@@ -255,7 +254,10 @@ seat_decided s moment who key event first second p id c club answer are running 
     & row_added (row_of_game both_games s.events) (first_of_game both_games s.events) s.games new
     & altered (0 ∷ 1 ∷ []) _ _ _ (seen-added both_games s.games new)
     & same_by _ _ (sym (scores_seated both_games s.games new running))
-    & same_itself _ & same_itself _ & same_itself _ & same_itself _ & tt)
+    & same_itself _ & same_itself _
+    & nothing_added rows_of_rulings s.games new
+    (no_rulings both_games (kind_at (place s.events p.event)) (Some key) p moment)
+    & same_itself _ & tt)
 
 -- ---- who asks
 

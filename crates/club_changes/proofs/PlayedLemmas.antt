@@ -32,7 +32,9 @@ use Rattle.club_requests.specs.Outcome.{unless, unless_repeat}
 use Rattle.club_core.specs.Answer.{outcome_of, reply_of, move_reply_of}
 use Rattle.club_core.specs.Events.{Terms}
 use Rattle.club_core.specs.Game.{Game, Entry, Clocks, moves_of, spend, spend_all, clocks_of, left_of, turn_of}
-use Rattle.club_core.specs.Game.{last_position, result_of}
+use Rattle.club_core.specs.Game.{after_rulings, clocks_then, opening_clocks}
+use Rattle.club_core.specs.Game.{end_of, last_position, result_of, rule_end}
+use Rattle.club_core.specs.Rulings.{GivenRuling, verdict_of}
 use Rattle.club_core.specs.Legal.{IsLegalGame}
 use Rattle.club_core.specs.LegalState.{Each}
 use Rattle.club_core.specs.Step.{GameCommand, move, offer_draw, accept_draw, resign, claim_time, declare, played}
@@ -45,8 +47,10 @@ use Rattle.club_core.specs.declared.settling.Settled.{Settled}
 use Rattle.club_core.specs.View.{IsRowOf}
 use Rattle.club_core.specs.internal.View.{concluded, HasMade, IsConcluded, IsMade, RepetitionIfMoved}
 use Rattle.club_core.proofs.Proved.{AreRules, checked-legal, none-holds, reply-played, moves_of-played, made-played}
-use Rattle.club_rows.specs.Tables.{game_row, move_rows, entry_rows, with_entry, at_start}
-use Rattle.club_rows.proofs.Proved.{made-last, rows-alike, seen-row-stays, spend-since, is_some-none}
+use Rattle.club_core.proofs.Proved.{clocks_of-played, since-after, verdict-alone}
+use Rattle.club_rows.specs.Tables.{game_row, move_rows, entry_rows, with_entry, at_start, ruling_rows}
+use Rattle.club_rows.specs.Tables.{ruling_rows_from}
+use Rattle.club_rows.proofs.Proved.{made-last, rows-alike, rulings-stay, seen-row-stays, spend-since, is_some-none}
 use Rattle.store_tables.specs.declared.rows.Changes.{Changes}
 use Rattle.club_changes.specs.declared.decided.CommandEffect.{CommandEffect}
 use Rattle.sqlite.specs.Order.{Row}
@@ -80,6 +84,7 @@ module _ {P M E T : Type 0} (laws : GameRules P M E T) (terms : Terms) (g : Game
     pub second : new.second ≡ g.second
     pub start : new.start ≡ g.start
     pub entries : new.entries ≡ g.entries
+    pub rulings : new.rulings ≡ g.rulings
     pub unmoved : (r : MoveReply) → reply ≡ moved r → ⊥
 
   -- what a step leaves is so, where it accepts
@@ -89,12 +94,12 @@ module _ {P M E T : Type 0} (laws : GameRules P M E T) (terms : Terms) (g : Game
 
   -- It is, where it is so after a legal move, an offer and an end of a game that was running.
   module _ (Is : Game M → Reply → Type 0)
-      (of_move : (m : M) → laws.check (last_position laws g) m ≡ Ok tt → result_of laws g ≡ None
+      (of_move : (m : M) → laws.check (last_position laws g) m ≡ Ok tt → end_of laws g ≡ None
       → WhereAccepted Is (plays laws terms g moment (Ok m)))
-      (of_offer : (offer : Offer) (ply : ℕ) → result_of laws g ≡ None → Is (offered g offer) (draw_offered ply))
-      (of_end : (end : OutsideEnd) → result_of laws g ≡ None → WhereAccepted Is (ends laws g end)) where
+      (of_offer : (offer : Offer) (ply : ℕ) → end_of laws g ≡ None → Is (offered g offer) (draw_offered ply))
+      (of_end : (end : OutsideEnd) → end_of laws g ≡ None → WhereAccepted Is (ends laws g end)) where
     read_so : (r : Result M MoveRefusal) → ((m : M) → r ≡ Ok m → laws.check (last_position laws g) m ≡ Ok tt)
-        → result_of laws g ≡ None → WhereAccepted Is (plays laws terms g moment r)
+        → end_of laws g ≡ None → WhereAccepted Is (plays laws terms g moment r)
     read_so (Ok m) legal running = of_move m (legal m refl) running
     read_so (Err why) legal running = tt
 
@@ -109,8 +114,8 @@ module _ {P M E T : Type 0} (laws : GameRules P M E T) (terms : Terms) (g : Game
     if_so true o why is = is
     if_so false o why is = tt
 
-    running : is_some (result_of laws g) ≡ false → result_of laws g ≡ None
-    running none = is_some-none (result_of laws g) none
+    running : is_some (end_of laws g) ≡ false → end_of laws g ≡ None
+    running none = is_some-none (end_of laws g) none
 
     side_so : (side : Side) (command : GameCommand) → WhereAccepted Is (side_step laws terms g moment side command)
     side_so side (move ply text) =
@@ -146,7 +151,15 @@ module _ {P M E T : Type 0} (laws : GameRules P M E T) (terms : Terms) (g : Game
   same_but_end : (offer : Option Offer) (outside : Option OutsideEnd) (reply : Reply)
       → ((r : MoveReply) → reply ≡ moved r → ⊥) → IsChanged (record g { offer = offer; outside = outside }) reply
   same_but_end offer outside reply unmoved =
-      record { event = refl; first = refl; second = refl; start = refl; entries = refl; unmoved = unmoved }
+      record {
+        event = refl;
+        first = refl;
+        second = refl;
+        start = refl;
+        entries = refl;
+        rulings = refl;
+        unmoved = unmoved;
+      }
 
   -- a move was made, or nothing moved
   abbrev pub IsDone : Outcome (Game M) → Type 0
@@ -159,10 +172,10 @@ module _ {P M E T : Type 0} (laws : GameRules P M E T) (terms : Terms) (g : Game
 
   -- only a game that was running is changed
   abbrev pub WasRunning : Outcome (Game M) → Type 0
-  WasRunning = WhereAccepted (λ new reply. result_of laws g ≡ None)
+  WasRunning = WhereAccepted (λ new reply. end_of laws g ≡ None)
 
   pub step_running : (who : Caller) (command : GameCommand) → WasRunning (game_step laws terms g moment who command)
-  step_running = step_so (λ new reply. result_of laws g ≡ None) (λ m legal running. running)
+  step_running = step_so (λ new reply. end_of laws g ≡ None) (λ m legal running. running)
       (λ offer ply running. running) (λ end running. running)
 
   -- a game that a step leaves has a line of legal moves
@@ -252,18 +265,26 @@ same_moved a b is = cc
 
 -- ---- the effective moment
 
-pub since_within : {M : Type 0} (increment : ℕ) (side : Side) (es : List (Entry M)) (c : Clocks) (last : ℕ)
-    → c.since ≤ last
-    → Each (λ e. e.moment ≤ last) es → (spend_all increment side (map (λ e. e.moment) es) c).since ≤ last
-since_within increment side [] c last within each = within
-since_within increment side (e ∷ es) c last within each =
-    since_within increment (other side) es (spend increment side e.moment c) last
-    (rw (spend-since increment side e.moment c) (each 0 e refl)) (λ n x at. each (suc n) x at)
+pub since_within : {M : Type 0} (increment : ℕ) (rulings : List GivenRuling) (plies : ℕ) (side : Side)
+    (es : List (Entry M)) (c : Clocks) (last : ℕ) → c.since ≤ last → Each (λ e. e.moment ≤ last) es
+    → (spend_all increment rulings plies side (map (λ e. e.moment) es) c).since ≤ last
+since_within increment rulings plies side [] c last within each = within
+since_within increment rulings plies side (e ∷ es) c last within each =
+    let granted = after_rulings rulings plies c in
+    since_within increment rulings (suc plies) (other side) es (spend increment side e.moment granted) last
+    (rw (spend-since increment side e.moment granted) (each 0 e refl)) (λ n x at. each (suc n) x at)
+
+-- the clocks of a game go since its start or its last move
+pub clocks_within : {M : Type 0} (g : Game M) (terms : Terms) (last : ℕ) → g.start ≤ last
+    → Each (λ e. e.moment ≤ last) g.entries → (clocks_of g terms).since ≤ last
+clocks_within g terms last start each =
+    rw (since-after g.rulings (length g.entries) (clocks_then g terms))
+    (since_within terms.increment g.rulings 0 First g.entries (opening_clocks g terms) last start each)
 
 -- ---- what is decided in a game
 
 -- what is told of a decision that accepted nothing
-abbrev IsTold : {R P M E T : Type 0} → Decision R P M E T → given.Outcome → Type 0
+abbrev pub IsTold : {R P M E T : Type 0} → Decision R P M E T → given.Outcome → Type 0
 IsTold (decision.Accepted row made answer) told = ⊥
 IsTold (decision.Repeated answer) told = told ≡ given_is.Repeated answer
 IsTold (decision.Refused why) told = told ≡ given_is.Refused why
@@ -283,12 +304,21 @@ module _ {P M E T : Type 0} (laws : GameRules P M E T) (terms : Terms) (id : ℕ
   none_given (repeated reply) _ d is told none = absurd is
   none_given (refused refusal) _ d is told none = absurd is
 
--- the rows of the moves are those of the start and the entries
+-- the rows of the moves are those of the start, the rulings and the entries
 pub rows_stay : {P M E T : Type 0} (laws : GameRules P M E T) (terms : Terms) (id : ℕ) (new g : Game M)
-    → new.start ≡ g.start → new.entries ≡ g.entries → move_rows laws terms id new ≡ move_rows laws terms id g
-rows_stay laws terms id new g start entries =
-    rows-alike laws terms id (at_start new) (at_start g) new.entries start refl
+    → new.start ≡ g.start → new.rulings ≡ g.rulings → new.entries ≡ g.entries
+    → move_rows laws terms id new ≡ move_rows laws terms id g
+rows_stay laws terms id new g start rulings entries =
+    rows-alike laws terms id (at_start new) (at_start g) new.entries start rulings refl
     ∙ ap (entry_rows laws terms id (at_start g)) entries
+
+-- the rows of the rulings on a running game do not depend on how it ends outside the rules
+pub ruled_rows_stay : {P M E T : Type 0} (laws : GameRules P M E T) (id : ℕ) (new g : Game M) → end_of laws g ≡ None
+    → new.rulings ≡ g.rulings → ruling_rows id new ≡ ruling_rows id g
+ruled_rows_stay laws id new g running rulings =
+    let none : verdict_of g.rulings ≡ None =
+    verdict-alone (rule_end laws g) (verdict_of g.rulings) g.outside running in
+    ap (ruling_rows_from id 1 new.outside) rulings ∙ rulings-stay id 1 new.outside g.outside g.rulings none
 
 -- an answer to a move
 moved_answer : (answer : Answer) (r : MoveReply) → reply_of answer ≡ moved r → (mv : MoveAnswer)
@@ -333,20 +363,22 @@ module _ {P M E T : Type 0} (laws : GameRules P M E T) (are_rules : AreRules law
   seen_made row (Some made) answer m new o seen is made_is after = after
 
   module _ {R : Type 0} (row : GameRow E) (made : Option (Made R P M E T)) (answer : Answer) (counts : DerivedRows)
-      (c : Changes) (new : Game M) (running : result_of laws g ≡ None) (is : IsRowOf laws terms new row)
+      (c : Changes) (new : Game M) (running : end_of laws g ≡ None) (is : IsRowOf laws terms new row)
       (made_is : IsMade laws new (slice_get (moves_of new) (length g.entries)) made)
       (after : IsSeenAfter laws id (accepted new (reply_of answer)) (decision.Accepted row made answer) counts.seen)
-      (scores : PutsScoresOf table row.event row.first row.second row.result (score_list counts.scores))
+      (scores : PutsScoresOf table row.event row.first row.second row.end row.result (score_list counts.scores))
       (are : ArePut row answer counts c) where
-    scores_are : PutsScoresOf table new.event new.first new.second (result_of laws new) (score_list counts.scores)
-    scores_are = rw (is.event, is.first, is.second, is.result) at scores
+    scores_are : PutsScoresOf table new.event new.first new.second (end_of laws new) (result_of laws new)
+        (score_list counts.scores)
+    scores_are = rw (is.event, is.first, is.second, is.end, is.result) at scores
 
     -- the seconds of both fit the table
-    rows_put : length new.entries ≤ length g.entries + 1 → left_answered answer < 2 ^ 63
+    rows_put : length new.entries ≤ length g.entries + 1 → new.rulings ≡ g.rulings → left_answered answer < 2 ^ 63
         → Puts c moment (rows_of terms answer counts new)
-    rows_put few left =
+    rows_put few rulings left =
         let plies : length g.entries ≤ most_plies = legal.plies in
-        let room = room_for new terms budget increment (omega (arith, few, plies)) in
+        let room = room_for new terms budget increment (omega (arith, few, plies)) (rw rulings legal.rulings.count)
+        (rw rulings (λ n r at. (legal.rulings.each n r at).time)) in
         let clocks = sym is.clocks in
         are terms new (subst (λ k. k.left_first < 2 ^ 63) clocks room.0)
         (subst (λ k. k.left_second < 2 ^ 63) clocks room.1) left is
@@ -361,9 +393,12 @@ module _ {P M E T : Type 0} (laws : GameRules P M E T) (are_rules : AreRules law
         ∙ reply-played laws are_rules.turn_passes are_rules.first_starts g legal.line.legal m moment terms) in
         let count : length (played g m moment).entries ≡ length g.entries + 1 = simp length-append in
         let plies : length g.entries ≤ most_plies = legal.plies in
-        let room = room_for (played g m moment) terms budget increment (omega (arith, count, plies)) in
+        let room = room_for (played g m moment) terms budget increment (omega (arith, count, plies))
+        legal.rulings.count (λ n r at. (legal.rulings.each n r at).time) in
+        let stands = clocks_of-played g m moment (λ n r at. (legal.rulings.each n r at).plies) terms in
         let left = subst (λ k. k < 2 ^ 63) (sym (ap left_answered moved_is ∙ ap (λ r. r.left) shows))
-        (left_side (turn_of laws g) (clocks_of (played g m moment) terms) (2 ^ 63) room.0 room.1) in
+        (subst (λ c. left_of (turn_of laws g) c < 2 ^ 63) stands
+        (left_side (turn_of laws g) (clocks_of (played g m moment) terms) (2 ^ 63) room.0 room.1)) in
         let new_count = ap (λ n. length n.entries) new_is in
         let at = ap (λ n. slice_get (moves_of n) (length g.entries)) new_is ∙ made-played laws g m moment in
         let (seen, seen_is, is_seen) = seen_made row made answer m new _ counts.seen at made_is after in
@@ -379,9 +414,10 @@ module _ {P M E T : Type 0} (laws : GameRules P M E T) (are_rules : AreRules law
           seen_is = is_seen;
           scores = score_list counts.scores;
           scores_are = scores_are;
-          puts = rw (moved_is, seen_is) at (rows_put (omega (arith, count, new_count)) left);
+          puts = rw (moved_is, seen_is) at (rows_put (omega (arith, count, new_count)) (ap (λ n. n.rulings) new_is) left);
           grown = ap (move_rows laws terms id) new_is
               ∙ made-last laws are_rules terms id g m moment (move_reply_of mv) legal.line.legal (sym reply);
+          rulings = ap (ruling_rows id) new_is;
         })
     puts_either (inr same) =
         let none = unmoved_rows id moment answer same.unmoved in
@@ -395,8 +431,9 @@ module _ {P M E T : Type 0} (laws : GameRules P M E T) (are_rules : AreRules law
           entries = same.entries;
           scores = score_list counts.scores;
           scores_are = scores_are;
-          puts = rw (none.0, unseen) at (rows_put (omega (arith, count)) (omega (arith, none.1)));
-          stays = rows_stay laws terms id new g same.start same.entries;
+          puts = rw (none.0, unseen) at (rows_put (omega (arith, count)) same.rulings (omega (arith, none.1)));
+          stays = rows_stay laws terms id new g same.start same.rulings same.entries;
+          rulings = ruled_rows_stay laws id new g running same.rulings;
         })
 
   -- by the decision as it was given

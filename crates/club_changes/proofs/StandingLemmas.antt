@@ -129,7 +129,7 @@ stand_all rows k sums all end stand same =
 
 -- ---- the rows of two players
 
-module _ (before after : List Meeting) (event first second : ℕ) (score : Score) (pair : ScoreRows)
+module _ (before after : List Meeting) (event first second : ℕ) (score : Option Score) (pair : ScoreRows)
     (old mid new : Pair → Option ScoreSums) where
   abbrev was : List Row
   was = score_rows (before ++ after)

@@ -95,7 +95,7 @@ abbrev pub Puts : Columns → Score → (sums sums_now : Pair → Option ScoreSu
 Puts c score sums sums_now changed changed_now =
     (left right : List Meeting) → c.first ≢ c.second → AreStanding sums (score_rows (left ++ right))
     → PutsRows (score_rows (left ++ right))
-    (score_rows (left ++ (meetings (pos c.event) (pos c.first) (pos c.second) score ++ right))) sums_now changed
+    (score_rows (left ++ (meetings (pos c.event) (pos c.first) (pos c.second) (Some score) ++ right))) sums_now changed
     changed_now
 
 -- what was put of scores makes the table of these meetings, and these sums stand for it

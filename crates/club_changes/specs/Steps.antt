@@ -5,7 +5,7 @@ use Rattle.club_requests.specs.declared.requests.Who as given_who
 use Rattle.club_requests.specs.declared.requests.Command as given_command
 use Rattle.club_requests.specs.Outcome.{Outcome}
 use Rattle.club_core.specs.Answer.{who_of, command_of}
-use Rattle.club_core.specs.State.{Command, Request, step}
+use Rattle.club_core.specs.State.{Request, step}
 use Rattle.club_core.specs.State.{next}
 pub use Rattle.club_rows.specs.internal.LegalRows.{IsRecordOf}
 use Rattle.club_rows.specs.Club.{both_games, ClubState}

@@ -29,6 +29,7 @@ pub fn needs_arbiter(command: &Command) -> bool
     match command {
         Command::NewKey(_) => true,
         Command::CloseEvent(_) => true,
+        Command::Rule(_) => true,
         _ => false,
     }
 }

@@ -63,6 +63,7 @@ fn answered_moves(
         Answer::ChallengeAccepted { number: _, game: _ } => {}
         Answer::KeyGiven { number: _ } => {}
         Answer::EventClosed => {}
+        Answer::RulingGiven { number: _ } => {}
     }
     Ok(rows)
 }

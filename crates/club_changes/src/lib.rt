@@ -8,6 +8,7 @@
 //! - `on_member` (`acts`, `step`), `on_event` (`acts`, `step`): the answer, and the rows that give the tables of the
 //!   next state.
 //! - `on_key` (`acts`, `step`), `on_closing` (`acts`, `step`): the same for a club with an arbiter.
+//! - `put_ruling` (`acts`, `step`), `ruling_row_of_decision`: the same for a ruling on a game.
 //! - `put_decision` (`step`), `sweep_games` (`step`), `put_challenge` (`step`), `put_answered` (`step`): the upserted
 //!   rows give the tables of the next state. Nothing is upserted unless the command is accepted.
 //! - `seated_rows` (`puts`), `put_rows`, `new_rows`: the rows of a new game, and of an imported game, its plies and
@@ -28,6 +29,7 @@ pub mod imported;
 pub mod imports;
 mod kinds;
 pub mod people;
+pub mod rulings;
 pub mod seats;
 mod starts;
 pub mod stored;
@@ -42,6 +44,7 @@ pub use game::{DerivedRows, put_decision};
 pub use imported::{NewRows, new_rows, played_of};
 pub use imports::{ImportContext, event_kind, put_rows};
 pub use people::{on_event, on_member};
+pub use rulings::{RulingRows, put_ruling, ruling_row_of_decision};
 pub use seats::{event_at, seated_rows, terms_of};
 pub use stored::StoredGame;
 pub use sweep::sweep_games;

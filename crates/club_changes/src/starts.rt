@@ -2,7 +2,7 @@
 
 ghost use Rattle.std.specs.Prelude.{◌≡◌, ◌<◌, ℕ, Bool, [], ◌∷◌, Some, None, IfOk, IsTrue};
 ghost use Rattle.std.specs.Option.{option_map};
-ghost use Rattle.club_core.specs.Game.{result_of};
+ghost use Rattle.club_rows.specs.Scores.{meetings_of};
 ghost use Rattle.club_requests.specs.Limits.{is_budget};
 ghost use Rattle.club_core.specs.State.{seated};
 ghost use Rattle.club_core.specs.View.{IsRowOf};
@@ -54,7 +54,7 @@ pub(crate) fn start<R: Rules>(
               seen_rows R.rules new.game (seated (option_map (λ k. k.now) key.entry) new.pairing moment);
         })) }
     ensures running { IfOk result (λ changes.
-        result_of R.rules (seated (option_map (λ k. k.now) key.entry) new.pairing moment) ≡ None) }
+        meetings_of R.rules (seated (option_map (λ k. k.now) key.entry) new.pairing moment) ≡ []) }
 {
     let row = first_row::<R>(alloc, key, new.pairing, terms.budget, moment)?;
     let mut changes = changes_at(alloc, moment);

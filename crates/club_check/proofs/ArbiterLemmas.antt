@@ -1,19 +1,15 @@
 -- The tables that only schema 3 has: later keys, rulings and closings.
-use Rattle.std.proofs.Common.{◌≡◌, ◌≢◌, ◌⊎◌, ℕ, ◌<◌, ◌≤◌, List, [], ◌∷◌, length, map, inl, inr, refl, subst, sym, ◌∙◌, arith}
+use Rattle.std.proofs.Common.{◌≡◌, ℕ, List, length, map, refl, subst, sym, arith}
 use Rattle.std.proofs.lemmas.Option.{IfSome_then}
 use Rattle.sqlite.specs.Effect.{Database}
-use Rattle.sqlite.specs.Order.{Row}
 use Rattle.sqlite.specs.State.{State, IsUnchanged}
-use Rattle.sqlite_rules.specs.Lists.{Has}
 use Rattle.store_sql.specs.internal.Read.{IsReadAs}
 use Rattle.store_tables.specs.Cells.{IsClosing, IsKey}
-use Rattle.store_tables.specs.Content.{AreApart, cells}
+use Rattle.store_tables.specs.Content.{AreApart}
 use Rattle.store_tables.specs.Contents.{Content, Stores}
 use Rattle.store_tables.specs.Placed.{club_trees}
-use Rattle.store_tables.specs.Tables.{closings, keys, members, rulings}
-use Rattle.store_tables.specs.declared.names.Table.{Table}
-use Rattle.store_tables.specs.declared.names.Table.TheVariants.{Closings, Events, Games, Keys, Members, Meta, Rulings}
-use Rattle.store_tables.specs.declared.names.Table.TheVariants.{Scores, Seen}
+use Rattle.store_tables.specs.Tables.{closings, keys, members}
+use Rattle.store_tables.specs.declared.names.Table.TheVariants.{Closings, Events, Keys, Members}
 use Rattle.store_tables.specs.declared.names.Version.{Version}
 use Rattle.store_tables.specs.declared.names.Version.TheVariants.{V1, V2, V3}
 use Rattle.store_tables.specs.declared.rows.ClosingRow.{ClosingRow}
@@ -23,28 +19,23 @@ use Rattle.store_tables.specs.declared.rows.MemberRow.{MemberRow}
 use Rattle.store_tables.specs.internal.Cells.{closing_cells, key_cells, member_cells}
 use Rattle.club_core.specs.Members.{Member}
 use Rattle.club_rows.specs.Club.{both_games, ClubState, IsClub}
-use Rattle.club_rows.specs.FirstSchema.{tables_at}
 use Rattle.club_rows.specs.Tables.{gathered_from, rows_of_closing, tables_of}
-use Rattle.club_audit.specs.FirstWrong.{order}
 use Rattle.club_audit.specs.internal.Audit.{AreMembers}
 use Rattle.club_audit.specs.internal.ClosingAudit.{AreClosingsAfter, AreClosingsOf}
 use Rattle.club_audit.specs.internal.KeyAudit.{AreKeysOf}
 use Rattle.club_audit.proofs.Proved.{closings-in-order}
-use Rattle.club_check.specs.Places.{NamesRows}
-use Rattle.club_check.specs.ReasonIsRight.{HoldsNone, HoldsOnly, NamesTable}
-use Rattle.club_check.specs.RightTables.{AreOfClub, HasTable, HaveNoRulings, IsRight}
+use Rattle.club_check.specs.ReasonIsRight.{HoldsNone, NamesTable}
+use Rattle.club_check.specs.RightTables.{AreOfClub, HasTable, IsRight}
 use Rattle.club_check.specs.Versions.{HoldsRows}
 use Rattle.club_check.specs.internal.ReasonIsRight.{AreClosingsRead, AreKeysRead, AreRulingsCounted, HoldsIn}
 use Rattle.club_check.specs.internal.ReasonIsRight.{ReasonIsRight}
 use Rattle.club_check.specs.internal.RightTables.{NamesWrong, TellsEvents, TellsMembers}
 use Rattle.club_check.specs.declared.fault.OpenFault.{OpenFault}
-use Rattle.club_check.specs.declared.fault.OpenFault.TheVariants.{Damaged, Foreign, Memory, Schema, Store}
 use Rattle.club_check.proofs.ClubLemmas.{before, events_of, keeps_same, members_kept, members_of, names, read_after}
 use Rattle.club_check.proofs.ClubLemmas.{read_before, stays}
-use Rattle.club_check.proofs.FirstWrong.{closings_in, club_rows, club_types, keeps_held, keys_in, legal_of, rulings_in}
+use Rattle.club_check.proofs.FirstWrong.{closings_in, club_rows, club_types, keeps_held, keys_in, legal_of}
 use Rattle.club_check.proofs.FirstWrong.{types_none}
 use Rattle.club_check.proofs.KeptLemmas.{closings_kept, keys_kept}
-use Rattle.club_check.proofs.RowLemmas.{cases_zero, none_in, one_in}
 use Rattle.club_check.proofs.ToldLemmas.{in_version}
 
 -- ---- what was read of a database that did not change
@@ -197,100 +188,3 @@ module _ (old new : State) (one : HoldsIn V3 old.now) where
       none
       (closings-in-order s.events event_rows closing_rows (events_of s legal event_rows rows_are)
       (closings_of_club s legal closing_rows (closings_kept s kept read))))
-
--- ---- rulings
-
-no_rows : (rows : List Row) → ((z : Row) → Has rows z → ⊥) → rows ≡ []
-no_rows [] none = refl
-no_rows (z ∷ rows) none = absurd (none z (inl refl))
-
--- no content has a ruling, if none is counted
-pub none_ruled : (version : Version) (count : ℕ) (old new : State) → HoldsIn version old.now → count ≡ 0
-    → AreRulingsCounted version count old new → HoldsOnly old.now HaveNoRulings
-none_ruled version count old new one none counted =
-    in_version version old.now one HaveNoRulings (λ content holds. of version content holds counted)
-  where
-    of : (v : Version) (content : Content) → HoldsRows v content old.now → AreRulingsCounted v count old new
-        → HaveNoRulings v content
-    of V1 content holds counted there = absurd there
-    of V2 content holds counted there = absurd there
-    of V3 content holds counted there = no_rows (content 20) (λ z h.
-        let (r, stored, is) = (rulings_in old.now content holds).rows.stored z h in
-        none_in (club_trees old.now 20) r (sym counted.number ∙ none) stored)
-
--- a number that is not more than 0 is 0
-pub rulings_none : (version : Version) (count : ℕ) (old new : State) → (0 < count → ⊥)
-    → AreRulingsCounted version count old new → AreRulingsCounted version 0 old new
-rulings_none version count old new none counted = elim (cases_zero count) [
-  | inl zero ↦ subst (λ n. AreRulingsCounted version n old new) zero counted
-  | inr some ↦ absurd (none some)
-]
-
--- each has one, if one is counted
-pub are_ruled : (version : Version) (count : ℕ) (old new : State) → HoldsIn version old.now → 0 < count
-    → AreRulingsCounted version count old new → HoldsNone old.now HaveNoRulings
-are_ruled version count old new one some counted =
-    in_version version old.now one (λ v content. ¬ HaveNoRulings v content) (λ content holds.
-    of version content holds counted)
-  where
-    of : (v : Version) (content : Content) → HoldsRows v content old.now → AreRulingsCounted v count old new
-        → ¬ HaveNoRulings v content
-    of V1 content holds counted none = let zero = counted.1 in omega (arith, some, zero)
-    of V2 content holds counted none = let zero = counted.1 in omega (arith, some, zero)
-    of V3 content holds counted none =
-        let number = counted.number in
-        let (r, stored) = one_in (club_trees old.now 20) (omega (arith, some, number)) in
-        let shown = (rulings_in old.now content holds).rows.only r stored in
-        subst (λ rows. Has rows (cells (rulings 20) r)) (none tt) shown
-
--- a legal club has no ruling
-unruled : (version : Version) (s : ClubState) → HaveNoRulings version (tables_at version s)
-unruled V1 s there = absurd there
-unruled V2 s there = absurd there
-unruled V3 s there = refl
-
--- where each content has a ruling, no legal club has the tables
-pub rulings_named : (db : Database) → HoldsNone db HaveNoRulings → NamesRows db (Damaged Rulings)
-rulings_named db some =
-    (Rulings, refl, λ version s own holds. some version (tables_at version s) holds (unruled version s))
-
--- ---- which table is named where there are rulings
-
--- The fault that is named for another one, where so many rulings were counted.
-pub record IsNamedWith (count : ℕ) (fault named : OpenFault) : Type 0 where
-  pub none : count ≡ 0 → named ≡ fault
-  pub later : (t : Table) → 0 < count → fault ≡ Damaged t → order Rulings < order t → named ≡ Damaged Rulings
-  pub sooner : (t : Table) → fault ≡ Damaged t → order t ≤ order Rulings → named ≡ fault
-  pub other : ((t : Table) → fault ≢ Damaged t) → named ≡ fault
-
-sooner_or_later : (t : Table) → (order t ≤ order Rulings) ⊎ (order Rulings < order t)
-sooner_or_later Games = inr (omega arith)
-sooner_or_later Seen = inr (omega arith)
-sooner_or_later Scores = inr (omega arith)
-sooner_or_later Meta = inr (omega arith)
-sooner_or_later _ = inl (omega arith)
-
--- a later table is named only if there are no rulings
-abbrev pub IsNotLate : OpenFault → ℕ → Type 0
-IsNotLate fault count = (t : Table) → fault ≡ Damaged t → order Rulings < order t → count ≡ 0
-
--- what is said of the fault where it is kept, and of the rulings where they are named instead, is said of what is named
-pub named_either : (count : ℕ) (fault named : OpenFault) → IsNamedWith count fault named → (IsSo : OpenFault → Type 0)
-    → (IsNotLate fault count → IsSo fault)
-    → ((t : Table) → 0 < count → fault ≡ Damaged t → order Rulings < order t → IsSo (Damaged Rulings)) → IsSo named
-named_either count fault named it IsSo kept ruled = elim (cases_zero count) [
-  | inl none ↦ subst IsSo (sym (it.none none)) (kept (λ t is low. none))
-  | inr some ↦ of fault refl some
-]
-  where
-    of : (e : OpenFault) → fault ≡ e → 0 < count → IsSo named
-    of (Damaged t) is some = elim (sooner_or_later t) [
-      | inl soon ↦ subst IsSo (sym (it.sooner t is soon)) (kept (λ u same low.
-          let one : t ≡ u = cc in
-          absurd (let late = subst (λ (v : Table). order v ≤ order Rulings) one soon in omega (arith, late, low))))
-      | inr late ↦ subst IsSo (sym (it.later t some is late)) (ruled t some is late)
-    ]
-    of Foreign is some = subst IsSo (sym (it.other (λ t same. cc))) (kept (λ t same low. cc))
-    of (Schema n) is some = subst IsSo (sym (it.other (λ t same. cc))) (kept (λ t same low. cc))
-    of Store is some = subst IsSo (sym (it.other (λ t same. cc))) (kept (λ t same low. cc))
-    of Memory is some = subst IsSo (sym (it.other (λ t same. cc))) (kept (λ t same low. cc))

@@ -60,7 +60,7 @@ use Rattle.club_rows.specs.FirstSchema.{IsClubOf, tables_at}
 use Rattle.club_rows.specs.Tables.{declares_number, member_row, event_row, rule_row, numbered_from, row_of_game}
 use Rattle.club_rows.specs.Tables.{tables_of, challenge_row, meta_row, number, version_of}
 use Rattle.club_rows.proofs.Proved.{rules-typed, members-typed, events-typed, moves-typed, games-typed, scores_typed}
-use Rattle.club_rows.proofs.Proved.{closings-typed, keys-typed, version-with, version-without}
+use Rattle.club_rows.proofs.Proved.{closings-typed, keys-typed, rulings-typed, version-with, version-without}
 use Rattle.club_rows.proofs.Proved.{seen-typed, declares-alike, same-pos}
 use Rattle.club_check.proofs.NumberedLemmas.{challenges_typed, moved, numbered_had, numbered_has}
 use Rattle.club_audit.specs.internal.Audit.{AreEvents, AreMembers, AreRules, HasPeople}
@@ -441,7 +441,7 @@ club_typed s club Games = games-typed s club
 club_typed s club Seen = seen-typed s club
 club_typed s club Scores = scores_typed both_games s.games
 club_typed s club Keys = keys-typed s club
-club_typed s club Rulings = tt
+club_typed s club Rulings = rulings-typed s club
 club_typed s club Closings = closings-typed s club
 club_typed s club Meta =
     record { schema = pos (schema_number (version_of s)); last = pos s.last; is = refl }

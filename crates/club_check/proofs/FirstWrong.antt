@@ -56,20 +56,20 @@ use Rattle.store_tables.specs.declared.rows.GameTableRow.{GameTableRow}
 use Rattle.club_core.specs.declared.challenges.Challenge.{Challenge}
 use Rattle.club_core.specs.declared.seats.Pairing.{Pairing}
 use Rattle.club_audit.specs.internal.ChallengeAudit.{AreChallenges, IsGameAmong}
-use Rattle.club_check.specs.RightTables.{HasGame, HaveChallenges, HaveNoRulings, AreOfClub, HasTable}
+use Rattle.club_check.specs.RightTables.{HasGame, HaveChallenges, AreOfClub, HasTable}
 use Rattle.club_check.specs.RightTables.{IsFirstIn, IsRight}
 use Rattle.club_check.specs.internal.RightTables.{IsLater, IsOfPlay, IsUnheld, IsUntyped, IsWrongOfPlay}
 use Rattle.club_check.specs.RightTables.{NamesFirstDamaged, rows_in}
 use Rattle.club_check.specs.internal.RightTables.{NamesPlayed, NamesWrong, TellsEvents}
 use Rattle.store_tables.specs.declared.rows.MoveRow.{MoveRow}
+use Rattle.store_tables.specs.declared.rows.RulingRow.{RulingRow}
 use Rattle.store_tables.specs.declared.rows.SeenRow.{SeenRow}
 use Rattle.club_core.specs.Members.{Member}
 use Rattle.club_audit.specs.FirstWrong.{order}
 use Rattle.club_audit.specs.internal.FirstWrong.{IsFirstWrong}
 use Rattle.club_audit.specs.internal.GameAudit.{IsRightAt}
-use Rattle.club_check.specs.internal.Examined.{moves_in, seen_in}
-use Rattle.club_check.specs.RightMoves.{HaveMoves}
-use Rattle.club_check.specs.internal.RightMoves.{HaveMovesOf, SeenWrong}
+use Rattle.club_check.specs.RightMoves.{HaveMoves, HaveRulings}
+use Rattle.club_check.specs.internal.RightMoves.{HaveMovesOf, SeenWrong, moves_in, rulings_at, seen_in}
 use Rattle.club_check.proofs.RowLemmas.{shown_same}
 use Rattle.club_check.proofs.ClubLemmas.{before, challenges_once, challenges_right, events_kept}
 use Rattle.club_check.proofs.ClubLemmas.{events_of, keeps_same, members_kept, members_of}
@@ -361,7 +361,7 @@ people_upto version t content few club =
 pub right_upto : (version : Version) (content : Content) → AreOfClub version Closings content → (u : Table)
     → order u ≤ order Games → (order Closings < order u → HaveChallenges content)
     → (order Challenges < order u → HaveMoves version content)
-    → (order Moves < order u → HaveNoRulings version content)
+    → (order Moves < order u → HaveRulings version content)
     → (order Rulings < order u → AreOfClub version Games content) → IsRight u version content
 right_upto version content club Members low cs ms rs gs = sooner version Closings Members content (omega arith) club
 right_upto version content club Keys low cs ms rs gs = sooner version Closings Keys content (omega arith) club
@@ -376,7 +376,7 @@ right_upto version content club Games low cs ms rs gs = gs (omega arith)
 right_upto version content club _ low cs ms rs gs = absurd (omega (arith, low))
 
 pub all_upto : (version : Version) (content : Content) (top : Table) → AreOfClub version top content
-    → HaveChallenges content → HaveMoves version content → HaveNoRulings version content → (u : Table)
+    → HaveChallenges content → HaveMoves version content → HaveRulings version content → (u : Table)
     → order u ≤ order top → IsRight u version content
 all_upto version content top club have play none Challenges low = have
 all_upto version content top club have play none Moves low = play
@@ -401,11 +401,11 @@ pub after_people : (last table : Table) → order last ≤ order Closings → or
 after_people last table few next db e wrong right = first_wrong table db e wrong (λ version content holds u low.
     people_upto version last content few (right version content holds) u (omega (arith, low, next)))
 
--- one that names the games for their types, where the challenges and the moves are right by what is known of the games,
--- and there are no rulings
+-- one that names the games for their types, where the challenges, the moves and the rulings are right by what is known of
+-- the games
 pub first_games : (db : Database) → HoldsNone db (λ version content. HasTypes Games content)
     → HoldsOnly db (λ version content. AreOfClub version Closings content)
-    → HoldsOnly db (λ version content. HaveChallenges content) → HoldsOnly db HaveMoves → HoldsOnly db HaveNoRulings
+    → HoldsOnly db (λ version content. HaveChallenges content) → HoldsOnly db HaveMoves → HoldsOnly db HaveRulings
     → NamesFirstDamaged db (Damaged Games)
 first_games db none right have play unruled t is version content holds =
     let absent = none version content holds in
@@ -418,7 +418,7 @@ first_games db none right have play unruled t is version content holds =
 
 -- one that names the rulings, where the challenges and the moves are right
 pub first_rulings : (db : Database) → HoldsOnly db (λ version content. AreOfClub version Closings content)
-    → HoldsOnly db (λ version content. HaveChallenges content) → HoldsOnly db HaveMoves → HoldsNone db HaveNoRulings
+    → HoldsOnly db (λ version content. HaveChallenges content) → HoldsOnly db HaveMoves → HoldsNone db HaveRulings
     → NamesFirstDamaged db (Damaged Rulings)
 first_rulings db right have play ruled t is version content holds =
     subst (IsFirstIn version content) (damaged_same Rulings t is) (record {
@@ -452,66 +452,76 @@ first_known db rows none right pass = after_people Closings Challenges (omega ar
 -- ---- later tables
 
 -- moves that are blamed for their types are wrong
-pub moves_types_wrong : (rows : Rows) (old : State) (e : OpenFault) → ReasonIsRight Moves (moves 8) IsMove old e
-    → NamesPlayed rows old.now e
-moves_types_wrong rows old e blames t is =
+pub moves_types_wrong : (rows : Rows) (version : Version) (old : State) (e : OpenFault)
+    → ReasonIsRight Moves (moves 8) IsMove old e → NamesPlayed rows version old.now e
+moves_types_wrong rows version old e blames t is =
     let (named, none) = types_none Moves (moves 8) IsMove
-    (λ version content. HaveMovesOf rows (moves_in (club_trees old.now)))
+    (λ v content. HaveMovesOf rows (moves_in (club_trees old.now)) (rulings_at version (club_trees old.now)))
     old e
-    (λ version content holds have. (
+    (λ v content holds have. (
       stores_of (moves 8) 4 refl refl holds,
       types_same IsMove (content 8) (moves_in (club_trees old.now)) (shown_held (moves 8) 4 refl refl holds).back
           have.typed,
     ))
     blames t is in
-    subst (IsWrongOfPlay rows old.now) (sym named) (record {
-      play = (omega arith, omega arith, λ is. cc);
-      moves = λ here. none;
+    subst (IsWrongOfPlay rows version old.now) (sym named) (record {
+      play = (omega arith, omega arith);
+      moves = λ here. none version;
+      rulings = λ here. absurd cc;
       games = λ here. absurd cc;
       seen = λ here. absurd cc;
-      before = inr (λ low. absurd (omega (arith, low)), λ low. absurd (omega (arith, low)));
+      before = inr (record {
+        moves = λ low. absurd (omega (arith, low));
+        rulings = λ low. absurd (omega (arith, low));
+        games = λ low. absurd (omega (arith, low));
+      });
     })
 
 -- positions whose rowids are not apart are no club's
-pub seen_torn_wrong : (rows : Rows) (old : State) (e : OpenFault) → ReasonIsRight Seen (seen 12) IsSeen old e
-    → ((t : Table) → e ≡ Damaged t → ¬ AreApart (club_trees old.now 12)) → NamesPlayed rows old.now e
-seen_torn_wrong rows old e blames torn t is =
-    let (named, untyped) = types_none Seen (seen 12) IsSeen (λ version content. HasTypes Seen content) old e
-    (λ version content holds typed. (stores_of (seen 12) 6 refl refl holds, typed)) blames t is in
+pub seen_torn_wrong : (rows : Rows) (version : Version) (old : State) (e : OpenFault)
+    → ReasonIsRight Seen (seen 12) IsSeen old e
+    → ((t : Table) → e ≡ Damaged t → ¬ AreApart (club_trees old.now 12)) → NamesPlayed rows version old.now e
+seen_torn_wrong rows version old e blames torn t is =
+    let (named, untyped) = types_none Seen (seen 12) IsSeen (λ v content. HasTypes Seen content) old e
+    (λ v content holds typed. (stores_of (seen 12) 6 refl refl holds, typed)) blames t is in
     let unheld : IsUnheld old.now =
-    λ version content holds any. torn t is (stores_of (seen 12) 6 refl refl holds).apart in
-    subst (IsWrongOfPlay rows old.now) (sym named) (record {
-      play = (omega arith, omega arith, λ is. cc);
+    λ v content holds any. torn t is (stores_of (seen 12) 6 refl refl holds).apart in
+    subst (IsWrongOfPlay rows version old.now) (sym named) (record {
+      play = (omega arith, omega arith);
       moves = λ here. absurd cc;
+      rulings = λ here. absurd cc;
       games = λ here. absurd cc;
-      seen = λ here version content holds have. unheld version content holds tt;
+      seen = λ here content holds have. unheld version content holds tt;
       before = inl unheld;
     })
 
 -- positions whose values have other types are those of no legal club
-pub untyped_wrong : (rows : Rows) (old : State) → IsUntyped Seen old.now → SeenWrong rows old.now
-untyped_wrong rows old untyped version content holds have =
+pub untyped_wrong : (rows : Rows) (version : Version) (old : State) → IsUntyped Seen old.now
+    → SeenWrong rows version old.now
+untyped_wrong rows version old untyped content holds have =
     untyped version content holds
     (types_same IsSeen (content 12) (seen_in (club_trees old.now)) (shown_held (seen 12) 6 refl refl holds).back
     (types_same IsSeen (seen_in (club_trees old.now)) (tables_of both_games have.games.state 12) have.same.there
     (seen-typed have.games.state have.games.legal)))
 
 -- of the tables that the rows of a game may show to be wrong none is one up to the challenges
-game_later : (s : ClubState) (rows : Rows) (place : ℕ) (game : GameTableRow) (ms : List MoveRow) (ss : List SeenRow)
-    (last : Option ℕ) (t : Table) → ¬ IsRightAt s rows place game ms ss last t → IsOfPlay t ⊎ (t ≡ Meta)
-game_later s rows place game ms ss last Moves wrong = inl (omega arith, omega arith, λ is. cc)
-game_later s rows place game ms ss last Games wrong = inl (omega arith, omega arith, λ is. cc)
-game_later s rows place game ms ss last Seen wrong = inl (omega arith, omega arith, λ is. cc)
-game_later s rows place game ms ss last Meta wrong = inr refl
-game_later s rows place game ms ss last _ wrong = absurd (wrong tt)
+game_later : (s : ClubState) (rows : Rows) (place : ℕ) (game : GameTableRow) (ms : List MoveRow) (rs : List RulingRow)
+    (ss : List SeenRow) (last : Option ℕ) (t : Table) → ¬ IsRightAt s rows place game ms rs ss last t
+    → IsOfPlay t ⊎ (t ≡ Meta)
+game_later s rows place game ms rs ss last Moves wrong = inl (omega arith, omega arith)
+game_later s rows place game ms rs ss last Rulings wrong = inl (omega arith, omega arith)
+game_later s rows place game ms rs ss last Games wrong = inl (omega arith, omega arith)
+game_later s rows place game ms rs ss last Seen wrong = inl (omega arith, omega arith)
+game_later s rows place game ms rs ss last Meta wrong = inr refl
+game_later s rows place game ms rs ss last _ wrong = absurd (wrong tt)
 
-pub wrong_later : (s : ClubState) (rows : Rows) (place : ℕ) (game : GameTableRow) (ms : List MoveRow) (ss : List SeenRow)
-    (last : Option ℕ) (wrong : Option Table) → IsFirstWrong (IsRightAt s rows place game ms ss last) wrong
-    → IsLater wrong
-wrong_later s rows place game ms ss last None first t is = cc
-wrong_later s rows place game ms ss last (Some u) first t is =
+pub wrong_later : (s : ClubState) (rows : Rows) (place : ℕ) (game : GameTableRow) (ms : List MoveRow)
+    (rs : List RulingRow) (ss : List SeenRow) (last : Option ℕ) (wrong : Option Table)
+    → IsFirstWrong (IsRightAt s rows place game ms rs ss last) wrong → IsLater wrong
+wrong_later s rows place game ms rs ss last None first t is = cc
+wrong_later s rows place game ms rs ss last (Some u) first t is =
     subst (λ (v : Table). IsOfPlay v ⊎ (v ≡ Meta)) (same_Some u t is)
-    (game_later s rows place game ms ss last u first.named)
+    (game_later s rows place game ms rs ss last u first.named)
 
 -- of two
 pub either_later : (w v u : Option Table) → ((t : Table) → u ≡ Some t → (w ≡ Some t) ⊎ (v ≡ Some t)) → IsLater w

@@ -4,12 +4,14 @@ pub mod ClubLemmas
 pub mod ExaminedLemmas
 pub mod FirstWrong
 pub mod FoundGames
+pub mod JudgedPlay
 pub mod KeptLemmas
 pub mod KnownLemmas
 pub mod PeopleLemmas
 pub mod PlayedLemmas
 pub mod Proved
 pub mod RowLemmas
+pub mod RulingLemmas
 pub mod StoredClub
 pub mod StoredLemmas
 pub mod ToldLemmas

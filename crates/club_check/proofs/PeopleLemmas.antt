@@ -27,6 +27,7 @@ use Rattle.store_tables.specs.internal.Cells.{closing_cells, event_rule_cells, k
 use Rattle.club_core.specs.Events.{Event}
 use Rattle.club_core.specs.LegalState.{Each, HaveUniqueKeys, IsWithoutArbiter}
 use Rattle.club_core.specs.Members.{Member}
+use Rattle.club_core.specs.State.{rulings_of}
 use Rattle.club_laws.proofs.Proved.{map-got}
 use Rattle.club_rows.specs.Club.{both_games, ClubState, IsClub}
 use Rattle.club_rows.specs.FirstSchema.{IsClubOf}
@@ -143,13 +144,14 @@ closings_none V1 rows old new read other = read.1
 closings_none V2 rows old new read other = read.1
 closings_none V3 rows old new read other = absurd (true≢false other)
 
--- a club with no rows of them does without an arbiter
+-- a club with no rows of them, and with no rulings, does without an arbiter
 pub without_arbiter : (s : ClubState) (key_rows : List KeyRow) (closing_rows : List ClosingRow)
     → AreKeysOf s.members key_rows → AreClosingsOf s.events closing_rows → key_rows ≡ [] → closing_rows ≡ []
-    → IsWithoutArbiter s
-without_arbiter s key_rows closing_rows own closed no_keys no_closings = record {
+    → Each (λ g. rulings_of g ≡ []) s.games → IsWithoutArbiter s
+without_arbiter s key_rows closing_rows own closed no_keys no_closings no_rulings = record {
   keys = no_later 1 s.members (ap (map key_cells) (sym no_keys) ∙ own.rows_are);
   events = no_closed 1 s.events (ap (map closing_cells) (sym no_closings) ∙ closed.rows_are);
+  games = no_rulings;
 }
 
 -- a legal club of an earlier version than schema 3 has none of their rows
@@ -229,7 +231,8 @@ module _ (member_rows : List MemberRow) (key_rows : List KeyRow) (event_rows : L
       challenges = λ n x at. cc;
       challenge_numbers = λ i j x y one two alike. cc;
       without_arbiter = λ other.
-          without_arbiter club_with key_rows closing_rows p.keys_are p.closings_are (no_keys other) (no_closings other);
+          without_arbiter club_with key_rows closing_rows p.keys_are p.closings_are (no_keys other) (no_closings other)
+          (λ n x at. cc);
     }
 
     -- such a club has the rows of the tables up to one of people

@@ -1,6 +1,6 @@
 -- The club that the tables of a file are, and what is named where they are those of none.
 use Rattle.std.proofs.Common.{◌≡◌, ◌≢◌, ◌⊎◌, ℕ, ◌≤◌, false, true, true≢false, List, [], ◌∷◌, length, map, Option, Some}
-use Rattle.std.proofs.Common.{None, refl, ap, sym, subst, ◌∙◌, arith, inl, inr, ◌<◌}
+use Rattle.std.proofs.Common.{None, ◌+◌, pos, refl, ap, sym, subst, ◌∙◌, arith, inl, inr, ◌<◌}
 use Rattle.std.proofs.lemmas.List.{take_all}
 use Rattle.std.proofs.lemmas.Option.{same_Some}
 use Rattle.sqlite.specs.Effect.{Database}
@@ -24,15 +24,18 @@ use Rattle.store_tables.specs.declared.rows.KeyRow.{KeyRow}
 use Rattle.store_tables.specs.declared.rows.Rows.{Rows}
 use Rattle.store_tables.specs.declared.rows.ScoreRow.{ScoreRow}
 use Rattle.store_tables.proofs.Proved.{same_by, same_then}
+use Rattle.store_sql.specs.Read.{beginning_with}
 use Rattle.store_sql.specs.internal.Read.{IsReadAs}
 use Rattle.club_core.specs.declared.challenges.Challenge.{Challenge}
-use Rattle.club_rows.specs.Club.{both_games, ClubState, IsClub}
+use Rattle.club_core.specs.State.{rulings_of}
+use Rattle.club_rows.specs.Club.{both_games, ClubGame, ClubState, IsClub}
 use Rattle.club_rows.specs.EachOnce.{AreEachOnce}
 use Rattle.club_rows.specs.FirstSchema.{IsClubOf, tables_at}
 use Rattle.club_rows.specs.Scores.{scores_in}
-use Rattle.club_rows.specs.Tables.{gathered_from, rows_of_closing, rows_of_keys, rows_of_moves, rows_of_seen}
+use Rattle.club_rows.specs.Tables.{gathered_from, rows_of_closing, rows_of_keys, rows_of_moves, rows_of_rulings}
+use Rattle.club_rows.specs.Tables.{rows_of_seen}
 use Rattle.club_rows.specs.Tables.{tables_of}
-use Rattle.club_rows.proofs.Proved.{scores_typed}
+use Rattle.club_rows.proofs.Proved.{rulings_begin, scores_typed}
 use Rattle.club_audit.specs.internal.Audit.{AreApartGames, HasPeople}
 use Rattle.club_audit.specs.internal.ChallengeAudit.{AreChallenges}
 use Rattle.club_audit.specs.internal.ClosingAudit.{AreClosingsOf}
@@ -47,10 +50,10 @@ use Rattle.club_check.specs.internal.ReasonIsRight.{AreClosingsRead, AreKeysRead
 use Rattle.club_check.specs.internal.ReasonIsRight.{HoldsIn, ReasonIsRight}
 use Rattle.club_check.specs.internal.Examined.{AreScoresExamined, AreSeenOf, IsAfter, IsPlayExamined, IsPlayed}
 use Rattle.club_check.specs.internal.Examined.{WerePlayed}
-use Rattle.club_check.specs.internal.Examined.{moves_in, past, seen_in, NamesPlay}
+use Rattle.club_check.specs.internal.Examined.{past, NamesPlay}
 use Rattle.club_check.specs.internal.Places.{last_moment, IsRegisterOf}
-use Rattle.club_check.specs.RightTables.{AreOfClub, HasTable, HaveNoRulings}
-use Rattle.club_check.specs.internal.RightTables.{ArePlayed, AreScored, AreSeated, HasScores, IsOfPlay}
+use Rattle.club_check.specs.RightTables.{AreOfClub, HasTable}
+use Rattle.club_check.specs.internal.RightTables.{ArePlayed, AreRightBefore, AreScored, AreSeated, HasScores, IsOfPlay}
 use Rattle.club_check.specs.RightTables.{rows_in, IsFirstIn, IsRight}
 use Rattle.club_check.specs.internal.RightTables.{NamesScores, IsWrongOfPlay, NamesExamined}
 use Rattle.club_check.specs.RightTables.{NamesFirstDamaged}
@@ -66,20 +69,20 @@ use Rattle.club_check.proofs.KeptLemmas.{closings_kept, keys_kept}
 use Rattle.club_check.proofs.PeopleLemmas.{HasAllPeople, closings_absent, closings_none, closings_same, is_third}
 use Rattle.club_check.proofs.PeopleLemmas.{keys_absent, keys_none, keys_same, none_said, of_either, rules_same}
 use Rattle.club_check.proofs.PeopleLemmas.{without_arbiter}
-use Rattle.club_check.proofs.FirstWrong.{first_rulings, stores_of, types_none, types_same, rows_at}
+use Rattle.club_check.proofs.FirstWrong.{stores_of, types_none, types_same, rows_at}
 use Rattle.club_check.proofs.FirstWrong.{shown_held, keeps_held, all_upto, club_has, club_rows, events_told, legal_of}
 use Rattle.club_check.proofs.ClubLemmas.{among_game}
 use Rattle.club_check.proofs.FirstWrong.{closings_in, keys_in, members_told, people_upto, right_upto, rules_told}
-use Rattle.club_check.proofs.ToldLemmas.{club_told}
+use Rattle.club_check.proofs.ToldLemmas.{club_told, in_version}
 use Rattle.club_check.proofs.ClubLemmas.{challenges_once, game_among}
 use Rattle.club_check.proofs.FirstWrong.{JudgesChallenges, judged_among}
 use Rattle.sqlite.specs.Tree.{Trees}
 use Rattle.sqlite_trees.proofs.ListLemmas.{all_both}
-use Rattle.club_check.specs.RightMoves.{HaveMoves}
-use Rattle.club_check.specs.internal.RightMoves.{HaveGamesOf, HaveMovesOf, HaveSeenOf}
+use Rattle.club_check.specs.internal.RightMoves.{HaveGamesOf, HaveSeenOf, moves_in, rulings_at, seen_in}
 use Rattle.store_tables.specs.Changes.{HaveSame}
 use Rattle.club_check.proofs.RowLemmas.{seen_had, same_back, each_once, score_key, table_gathered}
-use Rattle.club_check.proofs.KnownLemmas.{moves_told, JudgesMoves}
+use Rattle.club_check.proofs.RulingLemmas.{no_rows, none_ruled, rulings_absent, rulings_held}
+use Rattle.club_check.proofs.JudgedPlay.{play_told, JudgesPlay}
 use Rattle.store_tables.specs.internal.Changes as changes
 
 -- ---- scores
@@ -111,12 +114,12 @@ scores_none rows scored_rows old new read complete version content holds has =
     true≢false (sym (complete s (record { few = has.legal.game_count; rows_are = has.games }) once))
 
 -- nor those of a club whose register the rows are
-pub scores_blamed : (rows : Rows) (db : Database) → HoldsNone db (λ version content. HasScores rows content)
-    → NamesPlay rows db (Damaged Scores)
-scores_blamed rows db none = (
+pub scores_blamed : (rows : Rows) (version : Version) (db : Database)
+    → HoldsNone db (λ version content. HasScores rows content) → NamesPlay rows version db (Damaged Scores)
+scores_blamed rows version db none = (
   Scores,
   refl,
-  λ version s own register holds. none version (tables_at version s) holds (record {
+  λ s own register holds. none version (tables_at version s) holds (record {
     state = s;
     legal = club_of_version version s own;
     games = register.games;
@@ -133,27 +136,30 @@ pub meta_played : (o : Option Table) → (o ≡ None) ⊎ (o ≡ Some Meta) → 
 meta_played o (inl none) = none_played o none
 meta_played o (inr last) = λ t is. same_Some t Meta (sym is ∙ last)
 
--- what was examined of the games and the moves, where no table up to the games is wrong
-pub are_seated : {rows : Rows} {last : Option ℕ} {wrong : Option Table} {old new : State}
-    → IsPlayExamined rows last wrong old new → IsAfter Games wrong → HaveIds rows → (s : ClubState) → HasPeople s rows
-    → AreApartGames rows.games.items → AreSeated rows old.now
+-- what was examined of the games, the moves and the rulings, where no table up to the games is wrong
+pub are_seated : {rows : Rows} {last : Option ℕ} {wrong : Option Table} {version : Version} {old new : State}
+    → IsPlayExamined rows last wrong version old new → IsAfter Games wrong → HaveIds rows → (s : ClubState)
+    → HasPeople s rows → AreApartGames rows.games.items → AreSeated rows version old.now
 are_seated play after ids s people apart = record {
   moves = play.games.moves_right (λ t is. let later = after t is in omega (arith, later)) ids s people;
+  rulings = play.games.rulings_right (λ t is. let later = after t is in omega (arith, later)) ids s people;
   apart = apart;
   found = play.games.seated after;
   none_left = play.games.moves_end after;
+  none_ruled = play.games.rulings_end after;
 }
 
-pub are_played : {rows : Rows} {last : Option ℕ} {wrong : Option Table} {old new : State}
-    → IsPlayExamined rows last wrong old new → IsPlayed wrong → HaveIds rows → (s : ClubState) → HasPeople s rows
-    → AreApartGames rows.games.items → ArePlayed rows old.now
+pub are_played : {rows : Rows} {last : Option ℕ} {wrong : Option Table} {version : Version} {old new : State}
+    → IsPlayExamined rows last wrong version old new → IsPlayed wrong → HaveIds rows → (s : ClubState)
+    → HasPeople s rows → AreApartGames rows.games.items → ArePlayed rows version old.now
 are_played {wrong} play played ids s people apart = record {
   seated = record {
-    moves = play.games.moves_right
-        (played_after Moves (omega arith) wrong played) ids s people;
+    moves = play.games.moves_right (played_after Moves (omega arith) wrong played) ids s people;
+    rulings = play.games.rulings_right (played_after Rulings (omega arith) wrong played) ids s people;
     apart = apart;
     found = λ t its. (play.games.played played t its).played;
     none_left = λ t its. (play.games.none_rests played t its).moves;
+    none_ruled = λ t its. (play.games.none_rests played t its).rulings;
   };
   seen_are = λ t its. (play.games.played played t its).seen_are;
   none_seen = λ t its. (play.games.none_rests played t its).seen;
@@ -187,8 +193,9 @@ pub record IsClubRead (rows : Rows) (version : Version) (old mid : State) : Type
   pub within : state.last ≤ last_moment
   pub challenges : AreChallenges state.challenges rows
   pub apart : AreApartGames rows.games.items
-  pub found : WerePlayed state rows.games.items (club_trees old.now) (length rows.games.items)
+  pub found : WerePlayed state rows.games.items version (club_trees old.now) (length rows.games.items)
   pub none_left : length (past (length rows.games.items) (moves_in (club_trees old.now))) ≡ 0
+  pub none_ruled : length (past (length rows.games.items) (rulings_at version (club_trees old.now))) ≡ 0
 
 module _ {rows : Rows} {version : Version} {old mid : State} (it : IsClubRead rows version old mid) where
   abbrev pub club_of_read : ClubState
@@ -197,6 +204,14 @@ module _ {rows : Rows} {version : Version} {old mid : State} (it : IsClubRead ro
   pub rows_of_read : map game_cells rows.games.items ≡ tables_of both_games club_of_read 10
   rows_of_read = ap (map game_cells) (sym (take_all (length rows.games.items) rows.games.items (omega arith)))
       ∙ it.found.rows_are
+
+  -- before schema 3 no game has a ruling
+  unruled_of : (v : Version) → is_third v ≡ false → (n : ℕ) (any : ClubGame)
+      → HaveSame (beginning_with (pos (1 + n)) (rulings_at v (club_trees old.now))) (rows_of_rulings (1 + n) any)
+      → rulings_of any ≡ []
+  unruled_of V1 other n any same = none_ruled (1 + n) any (no_rows (rows_of_rulings (1 + n) any) (λ z h. same.back z h))
+  unruled_of V2 other n any same = none_ruled (1 + n) any (no_rows (rows_of_rulings (1 + n) any) (λ z h. same.back z h))
+  unruled_of V3 other n any same = absurd (true≢false other)
 
   few : length it.found.games ≤ 5000
   few = let count = it.found.number_of in let low = it.apart.few in omega (arith, count, low)
@@ -221,7 +236,8 @@ module _ {rows : Rows} {version : Version} {old mid : State} (it : IsClubRead ro
         let other = sym it.arbiter ∙ none in
         without_arbiter club_of_read rows.keys.items rows.closings.items it.keys it.closings
         (keys_none version rows.keys.items old mid it.read.keys other)
-        (closings_none version rows.closings.items old mid it.read.closings other);
+        (closings_none version rows.closings.items old mid it.read.closings other)
+        (λ n any at. unruled_of version other n any (it.found.rulings_are n any at));
   }
 
   pub version_read : IsClubOf version club_of_read
@@ -235,6 +251,12 @@ module _ {rows : Rows} {version : Version} {old mid : State} (it : IsClubRead ro
       (subst (λ n. length (past n (moves_in (club_trees old.now))) ≡ 0) (sym it.found.number_of) it.none_left)
       it.found.moves_are
 
+  pub ruled_same_club : HaveSame (rulings_at version (club_trees old.now)) (tables_of both_games club_of_read 20)
+  ruled_same_club = table_gathered rows_of_rulings (λ id g z h. rulings_begin id g z h)
+      (rulings_at version (club_trees old.now)) it.found.games
+      (subst (λ n. length (past n (rulings_at version (club_trees old.now))) ≡ 0) (sym it.found.number_of)
+      it.none_ruled) it.found.rulings_are
+
   pub seen_same : AreSeenOf it.found.games (club_trees old.now)
       → length (past (length rows.games.items) (seen_in (club_trees old.now))) ≡ 0
       → HaveSame (seen_in (club_trees old.now)) (tables_of both_games club_of_read 12)
@@ -247,53 +269,63 @@ module _ {rows : Rows} {version : Version} {old mid : State} (it : IsClubRead ro
       → HaveSame scored (tables_of both_games club_of_read 14)
   scores_same scored are = (are club_of_read (record { few = few; rows_are = rows_of_read })).same
 
-  module _ (content : Content) (holds : HoldsRows version content old.now) (unruled : HaveNoRulings version content)
-    where
-      same_upto : (u : Table) → order u ≤ order Scores
-          → (order Games < order u → HaveSame (content 12) (tables_of both_games club_of_read 12))
-          → (order Seen < order u → HaveSame (content 14) (tables_of both_games club_of_read 14)) → HasTable u version
-          → HaveSame (rows_in u content) (rows_in u (tables_of both_games club_of_read))
-      same_upto Members low ss ps there = subst (HaveSame (content 1)) it.people.members.rows_are
-          (held_same (members 1) 1 refl refl holds it.read.members.keeps)
-      same_upto Keys low ss ps there =
-          keys_same version old mid there holds rows.keys.items it.read.keys it.state.members it.keys
-      same_upto Events low ss ps there = subst (HaveSame (content 4)) it.people.events.rows_are
-          (held_same (events 4) 2 refl refl holds it.read.events.keeps)
-      same_upto EventRules low ss ps there = rules_same version old mid there holds rows.events.items
-          rows.event_rules.items it.read.rules it.state.events it.people.rules
-      same_upto Closings low ss ps there =
-          closings_same version old mid there holds rows.closings.items it.read.closings it.state.events it.closings
-      same_upto Challenges low ss ps there =
-          same_then (content 6) (map challenge_cells rows.challenges.items) (tables_of both_games club_of_read 6)
-          (held_same (challenges 6) 3 refl refl holds it.read.challenges.keeps) it.challenges.rows_are.same
-      same_upto Moves low ss ps there =
-          same_then (content 8) (moves_in (club_trees old.now)) (tables_of both_games club_of_read 8)
-          (same_back _ _ (shown_held (moves 8) 4 refl refl holds)) moves_same
-      same_upto Rulings low ss ps there = same_by _ _ (unruled there)
-      same_upto Games low ss ps there =
-          subst (HaveSame (content 10)) rows_of_read (held_same (games 10) 5 refl refl holds it.read.games.keeps)
-      same_upto Seen low ss ps there = ss (omega arith)
-      same_upto Scores low ss ps there = ps (omega arith)
-      same_upto Meta low ss ps there = absurd (omega (arith, low))
+  -- the rulings of the content are the club's
+  rulings_upto : (v : Version) (content : Content) → HoldsRows v content old.now
+      → HaveSame (rulings_at v (club_trees old.now)) (tables_of both_games club_of_read 20) → HasTable Rulings v
+      → HaveSame (content 20) (tables_of both_games club_of_read 20)
+  rulings_upto V1 content holds same there = absurd there
+  rulings_upto V2 content holds same there = absurd there
+  rulings_upto V3 content holds same there =
+      same_then (content 20) (rulings_at V3 (club_trees old.now)) (tables_of both_games club_of_read 20)
+      (same_back _ _ (rulings_held V3 old.now content holds)) same
 
-      -- the club has the rows of each table up to one of play, or to the scores
-      club_upto : (t : Table) → order t ≤ order Scores
-          → (order Games < order t → HaveSame (content 12) (tables_of both_games club_of_read 12))
-          → (order Seen < order t → HaveSame (content 14) (tables_of both_games club_of_read 14))
-          → AreOfClub version t content
-      club_upto t last ss ps = record {
-        state = club_of_read;
-        legal = version_read;
-        same = λ u there low.
-            subst (HaveSame (rows_in u content))
-            (sym (rows_at version club_of_read u (omega (arith, last, low)) there))
-            (same_upto u (omega (arith, last, low)) (λ later. ss (omega (arith, low, later)))
-            (λ later. ps (omega (arith, low, later))) there);
-      }
+  module _ (content : Content) (holds : HoldsRows version content old.now) where
+    same_upto : (u : Table) → order u ≤ order Scores
+        → (order Games < order u → HaveSame (content 12) (tables_of both_games club_of_read 12))
+        → (order Seen < order u → HaveSame (content 14) (tables_of both_games club_of_read 14)) → HasTable u version
+        → HaveSame (rows_in u content) (rows_in u (tables_of both_games club_of_read))
+    same_upto Members low ss ps there = subst (HaveSame (content 1)) it.people.members.rows_are
+        (held_same (members 1) 1 refl refl holds it.read.members.keeps)
+    same_upto Keys low ss ps there =
+        keys_same version old mid there holds rows.keys.items it.read.keys it.state.members it.keys
+    same_upto Events low ss ps there = subst (HaveSame (content 4)) it.people.events.rows_are
+        (held_same (events 4) 2 refl refl holds it.read.events.keeps)
+    same_upto EventRules low ss ps there = rules_same version old mid there holds rows.events.items
+        rows.event_rules.items it.read.rules it.state.events it.people.rules
+    same_upto Closings low ss ps there =
+        closings_same version old mid there holds rows.closings.items it.read.closings it.state.events it.closings
+    same_upto Challenges low ss ps there =
+        same_then (content 6) (map challenge_cells rows.challenges.items) (tables_of both_games club_of_read 6)
+        (held_same (challenges 6) 3 refl refl holds it.read.challenges.keeps) it.challenges.rows_are.same
+    same_upto Moves low ss ps there =
+        same_then (content 8) (moves_in (club_trees old.now)) (tables_of both_games club_of_read 8)
+        (same_back _ _ (shown_held (moves 8) 4 refl refl holds)) moves_same
+    same_upto Rulings low ss ps there = rulings_upto version content holds ruled_same_club there
+    same_upto Games low ss ps there =
+        subst (HaveSame (content 10)) rows_of_read (held_same (games 10) 5 refl refl holds it.read.games.keeps)
+    same_upto Seen low ss ps there = ss (omega arith)
+    same_upto Scores low ss ps there = ps (omega arith)
+    same_upto Meta low ss ps there = absurd (omega (arith, low))
+
+    -- the club has the rows of each table up to one of play, or to the scores
+    club_upto : (t : Table) → order t ≤ order Scores
+        → (order Games < order t → HaveSame (content 12) (tables_of both_games club_of_read 12))
+        → (order Seen < order t → HaveSame (content 14) (tables_of both_games club_of_read 14))
+        → AreOfClub version t content
+    club_upto t last ss ps = record {
+      state = club_of_read;
+      legal = version_read;
+      same = λ u there low.
+          subst (HaveSame (rows_in u content))
+          (sym (rows_at version club_of_read u (omega (arith, last, low)) there))
+          (same_upto u (omega (arith, last, low)) (λ later. ss (omega (arith, low, later)))
+          (λ later. ps (omega (arith, low, later))) there);
+    }
 
 -- the club of games that were read, whatever the last moment is
 abbrev seated_read : {rows : Rows} {version : Version} {old mid : State} → AreRead version rows old mid
-    → (s : ClubState) → HasAllPeople s rows → (cs : List Challenge) → AreChallenges cs rows → AreSeated rows old.now
+    → (s : ClubState) → HasAllPeople s rows → (cs : List Challenge) → AreChallenges cs rows
+    → AreSeated rows version old.now
     → IsClubRead rows version old mid
 seated_read {rows} {version} read s all cs are_cs seated =
     let known : ClubState = record s { has_arbiter = is_third version; last = last_moment; challenges = cs } in
@@ -312,17 +344,18 @@ seated_read {rows} {version} read s all cs are_cs seated =
       apart = seated.apart;
       found = seated.found known own;
       none_left = seated.none_left known own;
+      none_ruled = seated.none_ruled known own;
     }
 
 -- with their positions, and with the scores
 pub played_club : {rows : Rows} {version : Version} {old mid : State} → AreRead version rows old mid → (s : ClubState)
-    → HasAllPeople s rows → (cs : List Challenge) → AreChallenges cs rows → ArePlayed rows old.now → (content : Content)
-    → HoldsRows version content old.now → HaveNoRulings version content → (t : Table) → order t ≤ order Scores
+    → HasAllPeople s rows → (cs : List Challenge) → AreChallenges cs rows → ArePlayed rows version old.now
+    → (content : Content) → HoldsRows version content old.now → (t : Table) → order t ≤ order Scores
     → (order Seen < order t → AreScored rows old.now) → AreOfClub version t content
-played_club {old} read s all cs are_cs played content holds unruled t last scored =
+played_club {old} read s all cs are_cs played content holds t last scored =
     let it = seated_read read s all cs are_cs played.seated in
     let made = tables_of both_games (club_of_read it) in
-    club_upto it content holds unruled t last
+    club_upto it content holds t last
     (λ later. same_then (content 12) (seen_in (club_trees old.now)) (made 12)
     (same_back _ _ (shown_held (seen 12) 6 refl refl holds))
     (seen_same it (played.seen_are it.state it.people) (played.none_seen s all.people)))
@@ -402,6 +435,18 @@ whole_unblamed oldest old e names v content holds club =
 
 -- ---- a legal club that has the rows of a file up to the games has the people and the games that were read of it
 
+-- its rulings are those that are shown
+rulings_told_of : (v : Version) (db : Database) (content : Content) → HoldsRows v content db → {t : Table}
+    (club : AreOfClub v t content) → order Rulings ≤ order t
+    → HaveSame (rulings_at v (club_trees db)) (tables_of both_games club.state 20)
+rulings_told_of V1 db content holds club upto =
+    same_by _ _ (sym (rulings_absent club.state (legal_of club) club.legal.no_arbiter))
+rulings_told_of V2 db content holds club upto =
+    same_by _ _ (sym (rulings_absent club.state (legal_of club) club.legal.1))
+rulings_told_of V3 db content holds club upto = same_then (rulings_at V3 (club_trees db)) (content 20)
+    (tables_of both_games club.state 20) (rulings_held V3 db content holds)
+    (club_rows club Rulings (omega arith) upto tt)
+
 module _ (rows : Rows) (version : Version) (old new : State) (read : AreRead version rows old new)
     (one : HoldsIn version old.now) (v : Version) (content : Content) (holds : HoldsRows v content old.now) where
   read_as : AreRead v rows old new
@@ -423,7 +468,7 @@ module _ (rows : Rows) (version : Version) (old new : State) (read : AreRead ver
       (keeps_held (games 10) 5 refl refl holds (club_rows club Games (omega arith) upto tt)) read.games
 
   pub games_told : {t : Table} (club : AreOfClub v t content) → order Games ≤ order t
-      → HaveGamesOf rows (moves_in (club_trees old.now))
+      → HaveGamesOf rows (moves_in (club_trees old.now)) (rulings_at v (club_trees old.now))
   games_told club upto = record {
     state = club.state;
     legal = legal_of club;
@@ -431,10 +476,12 @@ module _ (rows : Rows) (version : Version) (old new : State) (read : AreRead ver
     games = games_are club upto;
     same = same_then (moves_in (club_trees old.now)) (content 8) (tables_of both_games club.state 8)
         (shown_held (moves 8) 4 refl refl holds) (club_rows club Moves (omega arith) (omega (arith, upto)) tt);
+    ruled = rulings_told_of v old.now content holds club (omega (arith, upto));
   }
 
   -- and one that has those up to the positions has these, too
-  seen_told : AreOfClub v Seen content → HaveSeenOf rows (moves_in (club_trees old.now)) (seen_in (club_trees old.now))
+  seen_told : AreOfClub v Seen content
+      → HaveSeenOf rows (moves_in (club_trees old.now)) (rulings_at v (club_trees old.now)) (seen_in (club_trees old.now))
   unfolding games_told
   seen_told club = record {
     games = games_told club (omega arith);
@@ -498,118 +545,84 @@ club_read version other s own rows old new one holds read =
 module _ (rows : Rows) (version : Version) (old mid : State) (read : AreRead version rows old mid)
     (one : HoldsIn version old.now) (s : ClubState) (all : HasAllPeople s rows)
     (right : HoldsOnly old.now (λ v content. AreOfClub v Closings content)) where
-  module _ (v : Version) (content : Content) (holds : HoldsRows v content old.now) where
+  module _ (content : Content) (holds : HoldsRows version content old.now) where
     same_games : HaveSame (content 10) (map game_cells rows.games.items)
     same_games = held_same (games 10) 5 refl refl holds read.games.keeps
 
     judges : JudgesChallenges rows content
-    judges = judged_among rows s all.people read.members.keeps read.events.keeps read.challenges v content holds
+    judges = judged_among rows s all.people read.members.keeps read.events.keeps read.challenges version content holds
         (game_among rows.games.items (content 10) same_games) (among_game rows.games.items (content 10) same_games)
 
-    moves_judged : JudgesMoves v content rows (moves_in (club_trees old.now))
-    moves_judged = moves_told rows version old mid read one s all.people v content holds
+    judged : JudgesPlay version content rows old.now
+    judged = play_told rows version old mid read s all.people content holds
 
-    games_of : HaveNoRulings v content → (cs : List Challenge) → AreChallenges cs rows → AreSeated rows old.now
-        → AreOfClub v Games content
-    games_of unruled cs are seated = club_upto
-        (seated_read (read_as rows version old mid read one v content holds) s all cs are seated) content holds unruled
-        Games (omega arith) (λ later. absurd (omega (arith, later))) (λ later. absurd (omega (arith, later)))
+    games_of : (cs : List Challenge) → AreChallenges cs rows → AreSeated rows version old.now
+        → AreOfClub version Games content
+    games_of cs are seated = club_upto (seated_read read s all cs are seated) content holds Games (omega arith)
+        (λ later. absurd (omega (arith, later))) (λ later. absurd (omega (arith, later)))
 
-    played_of : HaveNoRulings v content → (cs : List Challenge) → AreChallenges cs rows → ArePlayed rows old.now
-        → (t : Table) → order t ≤ order Scores → (order Seen < order t → AreScored rows old.now)
-        → AreOfClub v t content
-    played_of unruled cs are played = played_club (read_as rows version old mid read one v content holds) s all cs are
-        played content holds unruled
+    played_of : (cs : List Challenge) → AreChallenges cs rows → ArePlayed rows version old.now → (t : Table)
+        → order t ≤ order Scores → (order Seen < order t → AreScored rows old.now) → AreOfClub version t content
+    played_of cs are played = played_club read s all cs are played content holds
 
     -- where it is one of play
-    moves_before : {t : Table} → IsWrongOfPlay rows old.now t → order Moves < order t → HaveMoves v content
-    moves_before wrong low = elim wrong.before [
-      | inl unheld ↦ absurd (unheld v content holds tt)
-      | inr (before, seated) ↦ moves_judged.1 (before low)
+    before_of : {t : Table} → IsWrongOfPlay rows version old.now t → AreRightBefore rows version old.now t
+    before_of wrong = elim wrong.before [
+      | inl unheld ↦ absurd (unheld version content holds tt)
+      | inr before ↦ before
     ]
 
-    upto_play : (cs : List Challenge) → AreChallenges cs rows → (t : Table) → order t ≤ order Seen
-        → (order Moves < order t → HaveMoves v content) → (order Rulings < order t → HaveNoRulings v content)
-        → (order Games < order t → AreOfClub v Games content) → (u : Table) → order u < order t → IsRight u v content
-    upto_play cs are t last moves unruled games u low = right_upto v content (right v content holds) u
-        (omega (arith, low, last)) (λ later. judges.0 cs are) (λ later. moves (omega (arith, low, later)))
-        (λ later. unruled (omega (arith, low, later))) (λ later. games (omega (arith, low, later)))
-
-    play_first : (t : Table) → IsWrongOfPlay rows old.now t → (cs : List Challenge) → AreChallenges cs rows
-        → (order Rulings < order t → HaveNoRulings v content) → IsFirstIn v content t
+    play_named : (t : Table) → IsWrongOfPlay rows version old.now t → ¬ IsRight t version content
     unfolding games_told seen_told
-    play_first Moves wrong cs are unruled = record {
-      before = upto_play cs are Moves (omega arith) (λ low. absurd (omega (arith, low)))
-          (λ low. absurd (omega (arith, low))) (λ low. absurd (omega (arith, low)));
-      named = λ its. wrong.moves refl v content holds (moves_judged.0 its);
-    }
-    play_first Games wrong cs are unruled = record {
-      before = upto_play cs are Games (omega arith) (moves_before wrong) unruled (λ low. absurd (omega (arith, low)));
-      named = λ club.
-          wrong.games refl v content holds
-          (games_told rows version old mid read one v content holds club (omega arith));
-    }
-    play_first Seen wrong cs are unruled = record {
-      before = upto_play cs are Seen (omega arith) (moves_before wrong) unruled (λ low. elim wrong.before [
-        | inl unheld ↦ absurd (unheld v content holds tt)
-        | inr (before, seated) ↦ games_of (unruled (omega arith)) cs are (seated low)
-      ]);
-      named = λ club.
-          wrong.seen refl v content holds (seen_told rows version old mid read one v content holds club);
-    }
-    play_first Rulings wrong cs are unruled = absurd (wrong.play.2 refl)
-    play_first _ wrong cs are unruled = let (low, high, other) = wrong.play in absurd (omega (arith, low, high))
+    play_named Moves wrong its = wrong.moves refl content holds (judged.moves.0 its)
+    play_named Rulings wrong its = wrong.rulings refl content holds (judged.rulings.0 its)
+    play_named Games wrong club = wrong.games refl content holds
+        (games_told rows version old mid read one version content holds club (omega arith))
+    play_named Seen wrong club = wrong.seen refl content holds
+        (seen_told rows version old mid read one version content holds club)
+    play_named _ wrong its = let (low, high) = wrong.play in absurd (omega (arith, low, high))
 
-  -- where the table that is named is one after the rulings, there are none
-  pub first_examined : (e : OpenFault) (oldest : Version) → IsRightFault oldest old.now e → NamesExamined rows old.now e
-      → ((t : Table) → e ≡ Damaged t → order Rulings < order t → HoldsOnly old.now HaveNoRulings)
-      → NamesFirstDamaged old.now e
-  first_examined e oldest blamed names unruled t is v content holds = elim (names t is) [
-    | inl (named, none) ↦ subst (IsFirstIn v content) (sym named) (record {
-      before = λ u low. people_upto v Closings content (omega arith) (right v content holds) u (omega (arith, low));
-      named = λ its. let (cs, are) = (judges v content holds).1 its in none cs are;
-    })
-    | inr ((cs, are), inl wrong) ↦ play_first v content holds t wrong cs are (λ low. unruled t is low v content holds)
-    | inr ((cs, are), inr (inl (named, played, none))) ↦
-        let spare = unruled t is (subst (λ (u : Table). order Rulings < order u) (sym named) (omega arith)) v content holds
-        in
-        subst (IsFirstIn v content) (sym named) (record {
+    play_first : (t : Table) → IsWrongOfPlay rows version old.now t → (cs : List Challenge) → AreChallenges cs rows
+        → IsFirstIn version content t
+    play_first t wrong cs are =
+        let before = before_of wrong in
+        let high = wrong.play.1 in
+        record {
+          before = λ u low. right_upto version content (right version content holds) u (omega (arith, low, high))
+              (λ later. judges.0 cs are)
+              (λ later. judged.moves.1 (before.moves (omega (arith, low, later)) content holds))
+              (λ later. judged.rulings.1 (before.rulings (omega (arith, low, later)) content holds))
+              (λ later. games_of cs are (before.games (omega (arith, low, later))));
+          named = play_named t wrong;
+        }
+
+    -- what is right before the scores or `meta`, where the games were played
+    played_upto : (cs : List Challenge) → AreChallenges cs rows → ArePlayed rows version old.now → (top : Table)
+        → order top ≤ order Scores → (order Seen < order top → AreScored rows old.now) → (u : Table)
+        → order u ≤ order top → IsRight u version content
+    played_upto cs are played top last scored = all_upto version content top (played_of cs are played top last scored)
+        (judges.0 cs are) (judged.moves.1 (played.seated.moves content holds))
+        (judged.rulings.1 (played.seated.rulings content holds))
+
+  pub first_examined : (e : OpenFault) (oldest : Version) → IsRightFault oldest old.now e
+      → NamesExamined rows version old.now e → NamesFirstDamaged old.now e
+  first_examined e oldest blamed names t is =
+      in_version version old.now one (λ v content. IsFirstIn v content t) (λ content holds. elim (names t is) [
+        | inl (named, none) ↦ subst (IsFirstIn version content) (sym named) (record {
           before = λ u low.
-              all_upto v content Seen
-              (played_of v content holds spare cs are played Seen (omega arith)
-              (λ later. absurd (omega (arith, later))))
-              ((judges v content holds).0 cs are) ((moves_judged v content holds).1 played.seated.moves) spare u
-              (omega (arith, low));
-          named = λ club. none v content holds (has_scores rows version old mid read one v content holds club);
+              people_upto version Closings content (omega arith) (right version content holds) u (omega (arith, low));
+          named = λ its. let (cs, are) = (judges content holds).1 its in none cs are;
         })
-    | inr ((cs, are), inr (inr (named, played, scored))) ↦
-        let spare = unruled t is (subst (λ (u : Table). order Rulings < order u) (sym named) (omega arith)) v content holds
-        in
-        subst (IsFirstIn v content) (sym named) (record {
-          before = λ u low.
-              all_upto v content Scores
-              (played_of v content holds spare cs are played Scores (omega arith) (λ later. scored))
-              ((judges v content holds).0 cs are) ((moves_judged v content holds).1 played.seated.moves) spare u
-              (omega (arith, low));
-          named = λ club. whole_unblamed oldest old e blamed v content holds club t is;
+        | inr ((cs, are), inl wrong) ↦ play_first content holds t wrong cs are
+        | inr ((cs, are), inr (inl (named, played, none))) ↦ subst (IsFirstIn version content) (sym named) (record {
+          before = λ u low. played_upto content holds cs are played Seen (omega arith)
+              (λ later. absurd (omega (arith, later))) u (omega (arith, low));
+          named = λ club.
+              none version content holds (has_scores rows version old mid read one version content holds club);
         })
-  ]
-
-  -- where there are rulings, and the challenges and the moves are right, the rulings are the first wrong table
-  pub ruled_first : (cs : List Challenge) → AreChallenges cs rows → HaveMovesOf rows (moves_in (club_trees old.now))
-      → HoldsNone old.now HaveNoRulings → NamesFirstDamaged old.now (Damaged Rulings)
-  ruled_first cs are play ruled = first_rulings old.now right (λ v content holds. (judges v content holds).0 cs are)
-      (λ v content holds. (moves_judged v content holds).1 play) ruled
-
-  -- so they are where a table after them would be named
-  pub ruled_examined : (e : OpenFault) → NamesExamined rows old.now e → (t : Table) → e ≡ Damaged t
-      → order Rulings < order t → HoldsNone old.now HaveNoRulings → NamesFirstDamaged old.now (Damaged Rulings)
-  ruled_examined e names t is low ruled = elim (names t is) [
-    | inl (named, none) ↦ absurd (let sooner = ap order named in omega (arith, sooner, low))
-    | inr ((cs, are), inl wrong) ↦ elim wrong.before [
-      | inl unheld ↦ λ u same v content holds. absurd (unheld v content holds tt)
-      | inr (before, seated) ↦ ruled_first cs are (before (omega (arith, low))) ruled
-    ]
-    | inr ((cs, are), inr (inl (named, played, none))) ↦ ruled_first cs are played.seated.moves ruled
-    | inr ((cs, are), inr (inr (named, played, scored))) ↦ ruled_first cs are played.seated.moves ruled
-  ]
+        | inr ((cs, are), inr (inr (named, played, scored))) ↦ subst (IsFirstIn version content) (sym named) (record {
+          before = λ u low. played_upto content holds cs are played Scores (omega arith) (λ later. scored) u
+              (omega (arith, low));
+          named = λ club. whole_unblamed oldest old e blamed version content holds club t is;
+        })
+      ])

@@ -9,9 +9,11 @@ use Rattle.std.proofs.lemmas.Option.{slice_get_within}
 use Rattle.sqlite_value.specs.Keys.{first_key, plain}
 use Rattle.sqlite_value.proofs.OrderLemmas.{value_cmp_total, value_cmp-Int}
 use Rattle.sqlite_value.specs.declared.value.Value.TheVariants.{Int}
-use Rattle.club_check.specs.internal.RightMoves.{without, HasMovesOf, HaveMovesOf, HaveSeenOf, beyond, id_at}
+use Rattle.club_check.specs.internal.RightMoves.{AreOwned, HasMovesOf, HasRulingsOf, HaveMovesOf, HaveRulingsOf}
+use Rattle.club_check.specs.internal.RightMoves.{HaveSeenOf, beyond, id_at, seen_in, without}
 use Rattle.sqlite.specs.Order.{Row, column}
-use Rattle.sqlite_trees.proofs.ListLemmas.{filter-filter, all_weaker, ascending-map, all_both, ascending-filter}
+use Rattle.sqlite_trees.proofs.ListLemmas.{filter-filter, filter-map, all_weaker, ascending-map, all_both}
+use Rattle.sqlite_trees.proofs.ListLemmas.{ascending-filter}
 use Rattle.sqlite_rules.specs.Lists.{Has}
 use Rattle.sqlite_rules.proofs.ListLemmas.{has_filtered, has_kept, all_has, all_from, has_got}
 use Rattle.store_tables.specs.Content.{same_key, AreApart, cells, Keeps}
@@ -21,7 +23,7 @@ use Rattle.club_rows.specs.Tables.{number, gathered_from, entry_row, entry_rows,
 use Rattle.club_rows.specs.Tables.{rows_of_seen, tables_of, row_of_game}
 use Rattle.store_sql.specs.Read.{beginning_with}
 use Rattle.store_sql.specs.internal.Read.{IsReadAs, AreReadOf}
-use Rattle.club_check.specs.internal.Examined.{past, seen_in}
+use Rattle.club_check.specs.internal.Examined.{past}
 use Rattle.store_tables.specs.Changes.{HaveSame}
 use Rattle.club_check.proofs.NumberedLemmas.{ids_agree, ids_same, gathered_had, gathered_has, moved}
 use Rattle.std.specs.Cmp.{IsTotalOrder, tied_itself}
@@ -51,7 +53,7 @@ use Rattle.club_rows.specs.Club.{ClubGame, both_games, ClubState, IsClub}
 use Rattle.sqlite.specs.State.{State}
 use Rattle.sqlite.specs.Table.{Table as Definition}
 use Rattle.store_tables.specs.Placed.{club_trees}
-use Rattle.store_tables.specs.Cells.{IsText, IsChallenge, IsSeen, IsScore, IsMove, game_cells}
+use Rattle.store_tables.specs.Cells.{IsText, IsChallenge, IsSeen, IsScore, IsMove, IsRuling, game_cells}
 use Rattle.club_rows.specs.EachOnce.{AreEachOnce}
 use Rattle.club_check.proofs.StoredLemmas.{AreUnique}
 use Rattle.std.proofs.lemmas.List.Sorted.{IsPermutation-sym}
@@ -325,7 +327,7 @@ before_ply a b g p q one two first second low =
     (ordering_then (value_less (column a 1) (column b 1) p q first second low i) Equal)
 
 -- the row is of this game and of this ply or a later one
-record IsFrom (id n : ℕ) (row : Row) : Type 0 where
+pub record IsFrom (id n : ℕ) (row : Row) : Type 0 where
   pub ply : ℕ
   pub later : n ≤ ply
   pub game_is : column row 0 ≡ Int (pos id)
@@ -423,21 +425,37 @@ module _ (table : Definition)
     (shown : (r s : Row) → by (cells table r) (cells table s) ≡ ordering_then (value_cmp (column r 1) (column s 1))
     (ordering_then (value_cmp (column r 2) (column s 2)) Equal)) (stored : List Row)
     (no_clash : (r : Row) → Has stored r → clashes plain (1 ∷ 2 ∷ []) stored r ≡ false) (apart : AreApart stored)
-    (ints : (r : Row) → Has stored r → IsInt (column r 1) × IsInt (column r 2)) where
-  keys_apart : (r s : Row) → Has stored r → Has stored s → value_cmp (rowid r) (rowid s) ≢ Equal
-      → Apart (cells table r) (cells table s)
-  keys_apart r s h k other tie =
-      let both = then_parts (value_cmp (column r 1) (column s 1)) (value_cmp (column r 2) (column s 2))
-      (sym (shown r s) ∙ tie) in
-      let one = ints r h in
-      let two = ints s k in
-      let game : equal Binary (column s 1) (column r 1) ≡ true = same_of (column s 1) (column r 1) two.0 one.0 both.0 in
-      let ply : equal Binary (column s 2) (column r 2) ≡ true = same_of (column s 2) (column r 2) two.1 one.1 both.1 in
-      other (one_rowid (1 ∷ 2 ∷ []) stored apart no_clash r s h k (agree_of s r game ply))
+  where
+    keys_apart : (r s : Row) → Has stored r → Has stored s → IsInt (column r 1) × IsInt (column r 2)
+        → IsInt (column s 1) × IsInt (column s 2) → value_cmp (rowid r) (rowid s) ≢ Equal
+        → Apart (cells table r) (cells table s)
+    keys_apart r s h k one two other tie =
+        let both = then_parts (value_cmp (column r 1) (column s 1)) (value_cmp (column r 2) (column s 2))
+        (sym (shown r s) ∙ tie) in
+        let game : equal Binary (column s 1) (column r 1) ≡ true = same_of (column s 1) (column r 1) two.0 one.0 both.0 in
+        let ply : equal Binary (column s 2) (column r 2) ≡ true = same_of (column s 2) (column r 2) two.1 one.1 both.1 in
+        other (one_rowid (1 ∷ 2 ∷ []) stored apart no_clash r s h k (agree_of s r game ply))
 
-  -- no two rows that are shown have one key
-  pub stored_apart : IsAscending Apart (map (cells table) stored)
-  stored_apart = ascending-map Apart (cells table) stored (turned stored keys_apart stored (λ r h. h) apart.apart)
+    -- no two rows that are shown have one key
+    pub stored_apart : ((r : Row) → Has stored r → IsInt (column r 1) × IsInt (column r 2))
+        → IsAscending Apart (map (cells table) stored)
+    stored_apart ints = ascending-map Apart (cells table) stored
+        (turned stored (λ r s h k. keys_apart r s h k (ints r h) (ints s k)) stored (λ r h. h) apart.apart)
+
+    -- no two rows that are shown and pass a test have one key
+    pub chosen_apart : (test : Row → Bool)
+        → ((r : Row) → Has stored r → test (cells table r) ≡ true → IsInt (column r 1) × IsInt (column r 2))
+        → IsAscending Apart (filter test (map (cells table) stored))
+    chosen_apart test ints =
+        let passes = λ (r : Row). test (cells table r) in
+        subst (IsAscending Apart) (sym (filter-map test (cells table) stored))
+        (ascending-map Apart (cells table) (filter passes stored)
+        (turned (filter passes stored)
+        (λ r s h k other.
+        let (one, is) = has_filtered passes stored r h in
+        let (two, also) = has_filtered passes stored s k in
+        keys_apart r s one two (ints r one is) (ints s two also) other) (filter passes stored) (λ r h. h)
+        (ascending-filter (λ r s. value_cmp (rowid r) (rowid s) ≢ Equal) passes stored apart.apart)))
 
 -- ---- the rows of challenges, of positions and of scores that were read are those of the club, each once
 
@@ -679,12 +697,7 @@ pub beyond_step : (games : Rows) → AreOwn games → (k : ℕ) (rows : List Row
     → length (beyond games k rows) ≡ length (beginning_with (id_at games k) rows) + length (beyond games (suc k) rows)
 beyond_step games apart = without_step (id_at games) (length games.games.items) apart
 
--- each of the rows begins with the id of a game
-abbrev AreOwned : Rows → List Row → Type 0
-AreOwned games rows = (row : Row) → Has rows row → (place : ℕ) × (game : GameTableRow)
-    × (slice_get games.games.items place ≡ Some game) × (column row 0 ≡ Int game.id)
-
--- where they do, none is left
+-- where each of the rows begins with the id of a game, none is left
 pub none_beyond : (games : Rows) (rows : List Row) → AreOwned games rows
     → length (beyond games (length games.games.items) rows) ≡ 0
 none_beyond games rows owned = elim (cases_zero (length (beyond games (length games.games.items) rows))) [
@@ -698,34 +711,56 @@ none_beyond games rows owned = elim (cases_zero (length (beyond games (length ga
       absurd (true≢false (sym begun ∙ none place within))
 ]
 
+-- where none is left, each begins with the id of a game
+begun_by : (rows : Rows) (shown : List Row) → length (beyond rows (length rows.games.items) shown) ≡ 0 → (x : Row)
+    → Has shown x → (n : ℕ) × (game : GameTableRow) × (slice_get rows.games.items n ≡ Some game)
+    × (begins game.id x ≡ true)
+begun_by rows shown none x h = elim (found_before (id_at rows) (length rows.games.items) shown x h) [
+  | inl left ↦ absurd (none_in (beyond rows (length rows.games.items) shown) x none left)
+  | inr (i, low, is) ↦
+      let (game, at) = there_at rows.games.items i low in
+      (i, game, at, subst (λ (n : ℤ). begins n x ≡ true) (id_of_game rows i game at) is)
+]
+
 -- where none is left and those of each game are right, all are
-pub moves_gathered : (rows : Rows) (moves : List Row) → length (beyond rows (length rows.games.items) moves) ≡ 0
+pub moves_gathered : (rows : Rows) (moves rulings : List Row)
+    → length (beyond rows (length rows.games.items) moves) ≡ 0
     → ((n : ℕ) (game : GameTableRow) → n < length rows.games.items → slice_get rows.games.items n ≡ Some game
-    → HasMovesOf rows moves game) → HaveMovesOf rows moves
-moves_gathered rows moves none each = record {
-  typed = all_from IsMove moves (λ x h. let (n, game, at, begun) = own x h in
+    → HasMovesOf rows moves rulings game) → HaveMovesOf rows moves rulings
+moves_gathered rows moves rulings none each = record {
+  typed = all_from IsMove moves (λ x h.
+      let (n, game, at, begun) = begun_by rows moves none x h in
       (each n game (slice_get_within rows.games.items n game at) at).typed x
       (has_kept (λ y. same_key (0 ∷ []) y (Int game.id ∷ [])) moves x h begun));
   owned = λ x h.
-      let (n, game, at, begun) = own x h in
+      let (n, game, at, begun) = begun_by rows moves none x h in
       let its = each n game (slice_get_within rows.games.items n game at) at in
       let typed = its.typed x (has_kept (λ y. same_key (0 ∷ []) y (Int game.id ∷ [])) moves x h begun) in
       (n, game, at, begun_is x game.id typed.game begun);
   played = λ n game at. (each n game (slice_get_within rows.games.items n game at) at).played;
 }
-  where
-    own : (x : Row) → Has moves x → (n : ℕ) × (game : GameTableRow) × (slice_get rows.games.items n ≡ Some game)
-        × (begins game.id x ≡ true)
-    own x h = elim (found_before (id_at rows) (length rows.games.items) moves x h) [
-      | inl left ↦ absurd (none_in (beyond rows (length rows.games.items) moves) x none left)
-      | inr (i, low, is) ↦
-          let (game, at) = there_at rows.games.items i low in
-          (i, game, at, subst (λ (n : ℤ). begins n x ≡ true) (id_of_game rows i game at) is)
-    ]
+
+pub rulings_gathered : (rows : Rows) (moves rulings : List Row)
+    → length (beyond rows (length rows.games.items) rulings) ≡ 0
+    → ((n : ℕ) (game : GameTableRow) → n < length rows.games.items → slice_get rows.games.items n ≡ Some game
+    → HasRulingsOf rows moves rulings game) → HaveRulingsOf rows moves rulings
+rulings_gathered rows moves rulings none each = record {
+  typed = all_from IsRuling rulings (λ x h.
+      let (n, game, at, begun) = begun_by rows rulings none x h in
+      (each n game (slice_get_within rows.games.items n game at) at).typed x
+      (has_kept (λ y. same_key (0 ∷ []) y (Int game.id ∷ [])) rulings x h begun));
+  owned = λ x h.
+      let (n, game, at, begun) = begun_by rows rulings none x h in
+      let its = each n game (slice_get_within rows.games.items n game at) at in
+      let typed = its.typed x (has_kept (λ y. same_key (0 ∷ []) y (Int game.id ∷ [])) rulings x h begun) in
+      (n, game, at, begun_is x game.id typed.game begun);
+  ruled = λ n game at. (each n game (slice_get_within rows.games.items n game at) at).ruled;
+}
 
 -- the rows of positions of a club with these games each begin with the id of one
-pub seen_owned : (rows : Rows) (moves positions : List Row) → HaveSeenOf rows moves positions → AreOwned rows positions
-seen_owned rows moves positions have x h =
+pub seen_owned : (rows : Rows) (moves rulings positions : List Row) → HaveSeenOf rows moves rulings positions
+    → AreOwned rows positions
+seen_owned rows moves rulings positions have x h =
     let s = have.games.state in
     let (n, g, at, has) = gathered_had (rows_of_seen both_games) 1 s.games x (have.same.there x h) in
     let (game, there, is) = numbered-back game_cells (row_of_game both_games s.events) 1 rows.games.items s.games

@@ -15,14 +15,13 @@ use Rattle.store_tables.specs.declared.names.Version.{Version}
 use Rattle.store_tables.specs.declared.names.Version.TheVariants.{V1, V2, V3}
 use Rattle.store_tables.specs.declared.rows.Rows.{Rows}
 use Rattle.store_tables.proofs.Proved.{same_by, leaves_of, has_map, has_mapped}
-use Rattle.store_sql.specs.internal.Read.{AreCounted, IsReadAs}
+use Rattle.store_sql.specs.internal.Read.{IsReadAs}
 use Rattle.club_rows.specs.Club.{both_games, ClubState, IsClub}
 use Rattle.club_rows.specs.FirstSchema.{IsClubOf, tables_at}
 use Rattle.club_rows.specs.Tables.{meta_row}
 use Rattle.club_rows.specs.Tables.{tables_of}
 use Rattle.club_audit.specs.internal.Audit.{AreApartGames, HasPeople}
 use Rattle.club_audit.specs.internal.ChallengeAudit.{AreChallenges}
-use Rattle.sqlite_rules.specs.Lists.{Has}
 use Rattle.club_audit.proofs.Proved.{club-challenges, keys-in, numbered-length, closed-by}
 use Rattle.club_check.proofs.NumberedLemmas.{◌&◌}
 use Rattle.club_check.specs.ReasonIsRight.{IsRightFault, NamesTable}
@@ -43,9 +42,9 @@ use Rattle.sqlite_value.specs.declared.value.Value.TheVariants.{Int}
 use Rattle.sqlite.specs.Table.{Table as Definition}
 use Rattle.store_tables.specs.Reading.{KeepsMay}
 use Rattle.store_tables.specs.Changes.{HaveSame}
-use Rattle.club_check.proofs.RowLemmas.{none_in}
 use Rattle.store_tables.specs.Contents as of_schema
-use Rattle.club_check.proofs.PlayedLemmas.{IsClubRead, club_of_read, club_read, moves_same, rows_of_read, scores_same, seen_same, version_read}
+use Rattle.club_check.proofs.PlayedLemmas.{IsClubRead, club_of_read, club_read, moves_same, rows_of_read, ruled_same_club}
+use Rattle.club_check.proofs.PlayedLemmas.{scores_same, seen_same, version_read}
 
 -- ---- the rows of a club that are read whole, and the club that they and its games are
 
@@ -107,18 +106,7 @@ as_shown table db content apart same = record {
   apart = apart;
 }
 
--- a table of which no row was counted has those of a table without rows
-as_counted : {old mid : State} (content : Content) → content 20 ≡ [] → AreCounted 20 0 old mid
-    → Stores (rulings 20) (club_trees old.now) content
-as_counted {old} content none counted = record {
-  rows = record {
-    stored = λ z h. absurd (subst (λ rows. Has rows z) none h);
-    only = λ r h. absurd (none_in (club_trees old.now 20) r (sym counted.number) h);
-  };
-  apart = counted.apart;
-}
-
-module _ {rows : Rows} {old new : State} (all : AreExamined rows old new) (version : Version) where
+module _ {rows : Rows} {version : Version} {old new : State} (all : AreExamined rows version old new) where
   abbrev known : ClubState → ClubState
   known s = record s { has_arbiter = is_third version; last = all.moment; challenges = all.challenges.0 }
 
@@ -129,20 +117,20 @@ module _ {rows : Rows} {old new : State} (all : AreExamined rows old new) (versi
     within = all.last.1;
   }
 
-module _ {rows : Rows} {old mid new : State} (all : AreExamined rows old new) where
-  meta_is : (version : Version) → IsMetaRead version rows.meta old mid → (meta_cells rows.meta ∷ [] ≡ meta_row
+module _ {rows : Rows} {version : Version} {old mid new : State} (all : AreExamined rows version old new) where
+  meta_is : IsMetaRead version rows.meta old mid → (meta_cells rows.meta ∷ [] ≡ meta_row
       (schema_number version) all.moment ∷ []) × IsReadAs (meta 0) 1 (meta_cells rows.meta ∷ []) old mid
-  meta_is version (inl (read, id, number)) =
+  meta_is (inl (read, id, number)) =
       (λ i. (Int (id i) ∷ Int (number i) ∷ Int (all.last.0 i) ∷ []) ∷ [], read)
-  meta_is version (inr missing) = absurd (missing.1 all.moment all.last.0)
+  meta_is (inr missing) = absurd (missing.1 all.moment all.last.0)
 
-  abbrev club_known : (version : Version) → AreRead version rows old mid → (s : ClubState) → HasAllPeople s rows
+  abbrev club_known : AreRead version rows old mid → (s : ClubState) → HasAllPeople s rows
       → IsClubRead rows version old mid
-  club_known version read s its =
-      let of = of_rows all version s its.people in
+  club_known read s its =
+      let of = of_rows all s its.people in
       record {
         read = read;
-        state = known all version s;
+        state = known all s;
         arbiter = refl;
         people = of.people;
         keys = its.keys;
@@ -151,69 +139,73 @@ module _ {rows : Rows} {old mid new : State} (all : AreExamined rows old new) wh
         within = all.last.1;
         challenges = all.challenges.1;
         apart = all.games;
-        found = (all.play.games.found refl (known all version s) of).played;
-        none_left = (all.play.games.none_left refl (known all version s) of).moves;
+        found = (all.play.games.found refl (known all s) of).played;
+        none_left = (all.play.games.none_left refl (known all s) of).moves;
+        none_ruled = (all.play.games.none_left refl (known all s) of).rulings;
       }
 
-  seen_known : (version : Version) (read : AreRead version rows old mid) (s : ClubState) (its : HasAllPeople s rows)
-      → HaveSame (seen_in (club_trees old.now)) (tables_of both_games (club_of_read (club_known version read s its)) 12)
-  seen_known version read s its =
-      let of = of_rows all version s its.people in
-      seen_same (club_known version read s its) (all.play.games.found refl (known all version s) of).seen_are
-      (all.play.games.none_left refl (known all version s) of).seen
+  seen_known : (read : AreRead version rows old mid) (s : ClubState) (its : HasAllPeople s rows)
+      → HaveSame (seen_in (club_trees old.now)) (tables_of both_games (club_of_read (club_known read s its)) 12)
+  seen_known read s its =
+      let of = of_rows all s its.people in
+      seen_same (club_known read s its) (all.play.games.found refl (known all s) of).seen_are
+      (all.play.games.none_left refl (known all s) of).seen
 
-  -- the tables of the database are those of this club
-  tables_known : (version : Version) (read : AreRead version rows old mid) (s : ClubState) (its : HasAllPeople s rows)
-      → AreRulingsCounted version 0 old mid → AreStored (schema_of version) (club_trees old.now)
-      (tables_at version (club_of_read (club_known version read s its)))
-  tables_known V1 read s its counted =
-      let it = club_known V1 read s its in
+-- the tables of the database are those of this club
+module _ {rows : Rows} {old mid new : State} where
+  tables_known : (version : Version) (all : AreExamined rows version old new) (read : AreRead version rows old mid)
+      (s : ClubState) (its : HasAllPeople s rows) (count : ℕ) → AreRulingsCounted version count old mid
+      → AreStored (schema_of version) (club_trees old.now)
+      (tables_at version (club_of_read (club_known all read s its)))
+  tables_known V1 all read s its count counted =
+      let it = club_known all read s its in
       let made = tables_at V1 (club_of_read it) in
-      let (number, meta_read) = meta_is V1 read.meta in
+      let (number, meta_read) = meta_is all read.meta in
       as_read made meta_read (same_by _ _ number)
       & as_read made read.members (same_by _ _ it.people.members.rows_are)
       & as_read made read.events (same_by _ _ it.people.events.rows_are)
       & as_read made read.challenges all.challenges.1.rows_are.same
       & as_shown (moves 8) (club_trees old.now) made all.play.moves_apart (moves_same it)
       & as_read made read.games (same_by _ _ (rows_of_read it))
-      & as_shown (seen 12) (club_trees old.now) made all.play.seen_apart (seen_known V1 read s its)
+      & as_shown (seen 12) (club_trees old.now) made all.play.seen_apart (seen_known all read s its)
       & as_read made all.scores.read (scores_same it all.scores.rows_of all.scores.are) & tt
-  tables_known V2 read s its counted =
-      let it = club_known V2 read s its in
+  tables_known V2 all read s its count counted =
+      let it = club_known all read s its in
       let made = tables_at V2 (club_of_read it) in
-      let (number, meta_read) = meta_is V2 read.meta in
+      let (number, meta_read) = meta_is all read.meta in
       as_read made meta_read (same_by _ _ number)
       & as_read made read.members (same_by _ _ it.people.members.rows_are)
       & as_read made read.events (same_by _ _ it.people.events.rows_are)
       & as_read made read.challenges all.challenges.1.rows_are.same
       & as_shown (moves 8) (club_trees old.now) made all.play.moves_apart (moves_same it)
       & as_read made read.games (same_by _ _ (rows_of_read it))
-      & as_shown (seen 12) (club_trees old.now) made all.play.seen_apart (seen_known V2 read s its)
+      & as_shown (seen 12) (club_trees old.now) made all.play.seen_apart (seen_known all read s its)
       & as_read made all.scores.read (scores_same it all.scores.rows_of all.scores.are)
       & as_read made read.rules (same_by _ _ it.people.rules) & tt
-  tables_known V3 read s its counted =
-      let it = club_known V3 read s its in
+  tables_known V3 all read s its count counted =
+      let it = club_known all read s its in
       let made = tables_at V3 (club_of_read it) in
-      let (number, meta_read) = meta_is V3 read.meta in
+      let (number, meta_read) = meta_is all read.meta in
       as_read made meta_read (same_by _ _ number)
       & as_read made read.members (same_by _ _ it.people.members.rows_are)
       & as_read made read.events (same_by _ _ it.people.events.rows_are)
       & as_read made read.challenges all.challenges.1.rows_are.same
       & as_shown (moves 8) (club_trees old.now) made all.play.moves_apart (moves_same it)
       & as_read made read.games (same_by _ _ (rows_of_read it))
-      & as_shown (seen 12) (club_trees old.now) made all.play.seen_apart (seen_known V3 read s its)
+      & as_shown (seen 12) (club_trees old.now) made all.play.seen_apart (seen_known all read s its)
       & as_read made all.scores.read (scores_same it all.scores.rows_of all.scores.are)
       & as_read made read.rules (same_by _ _ it.people.rules)
       & as_read made read.keys (same_by _ _ it.keys.rows_are)
-      & as_counted made refl counted
+      & as_shown (rulings 20) (club_trees old.now) made counted.apart (ruled_same_club it)
       & as_read made read.closings (same_by _ _ it.closings.rows_are) & tt
 
   -- the tables that were examined are those of a legal club
-  pub examined_club : (version : Version) → HasTablesOf version old.now.schema → IsDatabase old.now
-      → AreRead version rows old mid → (s : ClubState) → HasAllPeople s rows → AreRulingsCounted version 0 old mid
+  pub examined_club : (version : Version) (all : AreExamined rows version old new) → HasTablesOf version old.now.schema
+      → IsDatabase old.now → AreRead version rows old mid → (s : ClubState) → HasAllPeople s rows → (count : ℕ)
+      → AreRulingsCounted version count old mid
       → (t : ClubState) × IsClubOf version t × IsRegisterOf t rows × HasClub version old.now t
-  examined_club version has sound read s its counted =
-      let it = club_known version read s its in (
+  examined_club version all has sound read s its count counted =
+      let it = club_known all read s its in (
         club_of_read it,
         version_read it,
         record {
@@ -230,7 +222,7 @@ module _ {rows : Rows} {old mid new : State} (all : AreExamined rows old new) wh
           schema = has;
           told = club_told version (club_of_read it) (version_read it) old.now.schema;
           sound = sound;
-          tables = tables_known version read s its counted;
+          tables = tables_known version all read s its count counted;
         },
       )
 
@@ -239,17 +231,18 @@ module _ {rows : Rows} {old mid new : State} (all : AreExamined rows old new) wh
 -- What a fault says of rows that were read, and of a database that did not change since, it says of the database.
 pub play_blamed : (oldest version : Version) (rows : Rows) (old mid later : State) (fault : OpenFault)
     → HoldsIn version old.now → AreRead version rows old mid
-    → IsUnchanged old later → NamesTable later.now fault ⊎ NamesPlay rows later.now fault → IsRightFault oldest old.now fault
+    → IsUnchanged old later → NamesTable later.now fault ⊎ NamesPlay rows version later.now fault
+    → IsRightFault oldest old.now fault
 play_blamed oldest version rows old mid later fault one read same blamed = elim
-    (blamed_before rows fault same blamed) [
+    (blamed_before rows version fault same blamed) [
       | inl named ↦ inl named
-      | inr (t, is, none) ↦
-          inr
-          (inr
-          (inr (
-            t,
-            is,
-            λ other s club holds.
-                none other s club (club_read version other s club rows old mid one holds read) holds,
-          )))
+      | inr (t, is, none) ↦ inr (inr (inr (
+        t,
+        is,
+        λ other s club holds.
+            let at = one other (tables_at other s) holds in
+            let own = subst (λ v. IsClubOf v s) at club in
+            let held = subst (λ v. HasClub v old.now s) at holds in
+            none s own (club_read version version s own rows old mid one held read) held,
+      )))
     ]

@@ -165,3 +165,8 @@ unique_of version db content holds =
       seen = unique_here db.schema db.trees sound Seen (stands Seen tt has) (1 ∷ 2 ∷ []) refl refl;
       scores = unique_here db.schema db.trees sound Scores (stands Scores tt has) (1 ∷ 2 ∷ 3 ∷ []) refl refl;
     }
+
+pub rulings_unique : (db : Database) (content : Content) → HoldsRows V3 content db → (r : Row)
+    → Has (club_trees db 20) r → clashes plain (1 ∷ 2 ∷ []) (club_trees db 20) r ≡ false
+rulings_unique db content holds =
+    unique_here db.schema db.trees holds.sound Rulings (third_stands db.schema holds.schema.0).2 (1 ∷ 2 ∷ []) refl refl

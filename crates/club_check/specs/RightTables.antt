@@ -1,5 +1,5 @@
 -- When the rows of a table are right, given the tables before it, and which table an error names.
-use Rattle.std.specs.Prelude.{◌≡◌, ◌≢◌, ◌<◌, ◌≤◌, ◌^◌, ℕ, List, [], map, IsTrue}
+use Rattle.std.specs.Prelude.{◌≡◌, ◌≢◌, ◌<◌, ◌≤◌, ◌^◌, ℕ, List, map, IsTrue}
 use Rattle.sqlite.specs.Effect.{Database}
 use Rattle.sqlite.specs.Order.{Row, column}
 use Rattle.sqlite_rules.specs.Lists.{Has}
@@ -22,7 +22,7 @@ use Rattle.club_core.specs.declared.seats.Pairing.{Pairing}
 use Rattle.club_requests.specs.Limits.{is_challenge_number}
 use Rattle.club_audit.specs.FirstWrong.{order}
 use Rattle.club_check.specs.Versions.{HoldsRows}
-use Rattle.club_check.specs.RightMoves.{HaveMoves}
+use Rattle.club_check.specs.RightMoves.{HaveMoves, HaveRulings}
 use Rattle.club_check.specs.declared.fault.OpenFault.{OpenFault}
 use Rattle.club_check.specs.declared.fault.OpenFault.TheVariants.{Damaged}
 
@@ -90,16 +90,12 @@ pub record HaveChallenges (content : Content) : Type 0 where
   pub each : Each (IsChallengeIn content) challenges
   pub numbers : HaveUniqueKeys key_of_challenge challenges
 
--- there is no row of `rulings`: no command gives a ruling
-abbrev pub HaveNoRulings : Version → Content → Type 0
-HaveNoRulings version content = HasTable Rulings version → content (tree_of Rulings) ≡ []
-
 -- The table is right: a legal club has its rows with those of the tables before it. Challenges, moves and rulings refer
 -- to games, a later table, so they have conditions of their own.
 abbrev pub IsRight : Table → Version → Content → Type 0
 IsRight Challenges version content = HaveChallenges content
 IsRight Moves version content = HaveMoves version content
-IsRight Rulings version content = HaveNoRulings version content
+IsRight Rulings version content = HaveRulings version content
 IsRight t version content = AreOfClub version t content
 
 -- The named table is not right, and each table before it is.

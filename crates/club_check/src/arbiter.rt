@@ -1,9 +1,8 @@
 //! Reads the tables that only schema 3 has: later keys, rulings and closed events.
 
-ghost use Rattle.std.specs.Prelude.{◌≡◌, ◌≢◌, ◌⊎◌, ◌<◌, ◌≤◌, IsTrue, IfErr, IfOk, List, is_ok, length};
+ghost use Rattle.std.specs.Prelude.{◌≡◌, ◌⊎◌, IsTrue, IfErr, IfOk, List, is_ok, length};
 ghost use Rattle.sqlite.specs.State.{HasCleanDisk};
 ghost use Rattle.sqlite.specs.Held.{state};
-ghost use Rattle.club_audit.specs.FirstWrong.{order};
 ghost use Rattle.club_audit.specs.internal.Audit.{AreMembers};
 ghost use Rattle.club_audit.specs.internal.ClosingAudit.{AreClosingsAfter};
 ghost use Rattle.club_audit.specs.internal.KeyAudit.{AreKeysOf};
@@ -112,24 +111,5 @@ pub(crate) fn count_rulings<S: Alter>(
     match version {
         Version::V1 | Version::V2 => Ok(0),
         Version::V3 => count_of::<RulingRow, S>(alloc, conn, Table::Rulings),
-    }
-}
-
-/// The error, if there are rulings: no command gives a ruling, so they are wrong. Rulings are reported after moves.
-pub(crate) fn named_with(rulings: usize, fault: OpenFault) -> OpenFault
-    ensures none { rulings ≡ 0 → result ≡ fault }
-    ensures later { (t : Table) → 0 < rulings → fault ≡ OpenFault.Damaged t → order Table.Rulings < order t →
-        result ≡ OpenFault.Damaged Table.Rulings }
-    ensures sooner { (t : Table) → fault ≡ OpenFault.Damaged t → order t ≤ order Table.Rulings → result ≡ fault }
-    ensures other { ((t : Table) → fault ≢ OpenFault.Damaged t) → result ≡ fault }
-{
-    if rulings == 0 {
-        return fault;
-    }
-    match fault {
-        OpenFault::Damaged(Table::Games | Table::Seen | Table::Scores | Table::Meta) => {
-            OpenFault::Damaged(Table::Rulings)
-        }
-        _ => fault,
     }
 }

@@ -30,6 +30,7 @@ pub(crate) fn audit(alloc: Global, rows: &Rows) -> Result<Option<Table>, OpenFau
     ensures fault { IfErr result (BlamesRows rows.now) }
     ensures later { IfOk result IsLater }
     ensures other { IfOk result (λ wrong. wrong ≢ Some Table.Moves) }
+    ensures unruled { IfOk result (λ wrong. wrong ≢ Some Table.Rulings) }
     ensures unseen { IfOk result (λ wrong. wrong ≢ Some Table.Seen) }
     ensures games { IfOk result (λ wrong. wrong ≡ Some Table.Games → ¬ AreApartGames rows.now.games.items) }
     ensures challenged { IfErr result (λ e. (s : ClubState) → HasPeople s rows.now → NamesChallenges rows.now e) }

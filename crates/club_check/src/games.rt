@@ -7,7 +7,10 @@ ghost use Rattle.sqlite.specs.State.{HasCleanDisk, IsUnchanged};
 ghost use Rattle.sqlite.specs.Held.{state};
 ghost use Rattle.store_tables.specs.Placed.{HasClubTables, HasTableAt, club_trees};
 ghost use Rattle.store_tables.specs.Reading.{Reads};
-ghost use Rattle.store_tables.specs.Cells.{seen_cells};
+ghost use Rattle.store_tables.specs.Cells.{IsRuling, seen_cells, ruling_cells};
+ghost use Rattle.store_tables.specs.declared.names.Version.{Version};
+ghost use Rattle.store_sql.specs.Read.{beginning_with};
+ghost use Rattle.std.specs.List.{AllByRecursion};
 ghost use Rattle.store_tables.specs.Content.{AreApart};
 ghost use Rattle.store_tables.specs.Tables as tables;
 ghost use Rattle.store_tables.specs.Tables.{standing};
@@ -24,7 +27,8 @@ ghost use Rattle.club_check.specs.internal.RightTables.{IsLater, IsUntyped, Name
 ghost use Rattle.club_rows.specs.Club.{ClubState};
 ghost use Rattle.club_check.specs.internal.Examined.{AreGamesFound, IsAfter, IsGameFound, IsOneOf, NamesLeft};
 ghost use Rattle.club_check.specs.internal.Examined.{NamesPlay};
-ghost use Rattle.club_check.specs.internal.Examined.{moves_in, seen_in};
+ghost use Rattle.club_check.specs.internal.ReasonIsRight.{AreRulingsRead};
+ghost use Rattle.club_check.specs.internal.RightMoves.{HasRulingCount, moves_in, rulings_at, seen_in};
 
 use crate::fault::OpenFault;
 use crate::read::fault_in;
@@ -33,12 +37,13 @@ use club_audit::{GameRows, wrong_game};
 use sqlite::{Alter, Connection};
 use std::alloc::Global;
 use store_sql::{ReadFault, Select, check_rowids, read_by_first};
-use store_tables::{GameTableRow, MoveRow, Rows, SeenRow, Table};
+use store_tables::{GameTableRow, MoveRow, Rows, RulingRow, SeenRow, Table};
 
-/// The numbers of rows of moves and of positions.
+/// The numbers of rows of moves, of rulings and of positions.
 #[derive(Clone, Copy, Drop)]
 pub(crate) struct RowCounts {
     pub moves: usize,
+    pub rulings: usize,
     pub seen: usize,
 }
 
@@ -166,6 +171,39 @@ fn read_seen<S: Alter>(
     }
 }
 
+/// Reads the rows of rulings of the game; `None` if a value has the wrong type for its column. Nothing is read if the
+/// club has none.
+fn read_rulings<S: Alter>(
+    alloc: Global,
+    conn: &mut Connection<S>,
+    game: &GameTableRow,
+    all: usize,
+) -> Result<Option<Vec<RulingRow>>, OpenFault>
+    ensures reads { Reads (is_ok result) (state S.Store conn.old) (state S.Store conn.new) }
+    ensures rows { HasCleanDisk (state S.Store conn.new) → IfOk result (λ o. IfSome o (λ found. (version : Version) →
+        HasRulingCount version all (state S.Store conn.old).now → IsTrue (state S.Store conn.old).is_open →
+        AreRulingsRead version game.now.id (map ruling_cells found.items) (state S.Store conn.old)
+        (state S.Store conn.new))) }
+    ensures untyped { HasCleanDisk (state S.Store conn.new) → IfOk result (λ o. o ≡ None → (version : Version) →
+        HasRulingCount version all (state S.Store conn.old).now →
+        IsUnchanged (state S.Store conn.old) (state S.Store conn.new) × (¬ AllByRecursion IsRuling
+        (beginning_with game.now.id (rulings_at version (club_trees (state S.Store conn.old).now))))) }
+    ensures reason_is_right { HasCleanDisk (state S.Store conn.new) → IfErr result (λ e. (version : Version) →
+        HasRulingCount version all (state S.Store conn.old).now → (e ≡ OpenFault.Store) ⊎ (e ≡ OpenFault.Memory)) }
+{
+    if all == 0 {
+        return Ok(Some(Vec::new(alloc)));
+    }
+    let fault = match read_by_first::<RulingRow, S>(alloc, conn, &game.id) {
+        Ok(found) => return Ok(Some(found)),
+        Err(fault) => fault,
+    };
+    match fault {
+        ReadFault::WrongType => Ok(None),
+        other => Err(fault_in(Table::Rulings, other)),
+    }
+}
+
 fn given(last: &Option<Moment>) -> Option<Moment>
     ensures { result ≡ last.now }
 {
@@ -184,16 +222,18 @@ fn found_of(
     last: &Option<Moment>,
 ) -> Result<Found, OpenFault>
     ensures moves { IfOk result (λ found. found.own.moves ≡ length own.now.moves.now) }
+    ensures rulings { IfOk result (λ found. found.own.rulings ≡ length own.now.rulings.now) }
     ensures seen { IfOk result (λ found. found.own.seen ≡ length own.now.seen.now) }
     ensures first { IfOk result (λ found. (s : ClubState) → HasPeople s rows.now →
-        IsFirstWrong (IsRightAt s rows.now place own.now.game.now own.now.moves.now own.now.seen.now last.now)
-        found.wrong) }
+        IsFirstWrong (IsRightAt s rows.now place own.now.game.now own.now.moves.now own.now.rulings.now
+        own.now.seen.now last.now) found.wrong) }
     ensures memory { IfErr result (λ e. e ≡ OpenFault.Memory) }
 {
     match wrong_game(alloc, rows, place, own, given(last)) {
         Ok(wrong) => Ok(Found {
             own: RowCounts {
                 moves: own.moves.len(),
+                rulings: own.rulings.len(),
                 seen: own.seen.len(),
             },
             wrong,
@@ -202,10 +242,27 @@ fn found_of(
     }
 }
 
+/// The result for a game of which a ruling has a value of the wrong type: only its moves are counted.
+fn untyped_rulings(moves: usize) -> Found
+    ensures moves { result.own.moves ≡ moves }
+    ensures rulings { result.own.rulings ≡ 0 }
+    ensures seen { result.own.seen ≡ 0 }
+    ensures wrong { result.wrong ≡ Some Table.Rulings }
+{
+    Found {
+        own: RowCounts {
+            moves,
+            rulings: 0,
+            seen: 0,
+        },
+        wrong: Some(Table::Rulings),
+    }
+}
+
 /// Reads all rows of the game at index `place` (from 0) and checks that they are those of a legal game, up to the last
-/// timestamp if there is one.
-/// If a position has a value of the wrong type, the moves and the game are still checked, since they are reported
-/// before positions.
+/// timestamp if there is one. `all` is the number of rulings on all games.
+/// If a ruling has a value of the wrong type, the moves are not checked, since they cannot be without the rulings. If a
+/// position has one, the moves, the rulings and the game are still checked, since they are reported before positions.
 fn examine_game<S: Alter>(
     alloc: Global,
     conn: &mut Connection<S>,
@@ -213,35 +270,38 @@ fn examine_game<S: Alter>(
     place: usize,
     game: &GameTableRow,
     last: &Option<Moment>,
+    all: usize,
 ) -> Result<Found, OpenFault>
     requires last { IsMomentOf rows.now.meta.last last.now }
     requires at { slice_get rows.now.games.items place ≡ Some game.now }
     ensures reads { Reads (is_ok result) (state S.Store conn.old) (state S.Store conn.new) }
-    ensures found { HasCleanDisk (state S.Store conn.new) → IfOk result (λ found.
-        HasClubTables (state S.Store conn.old).now.schema →
+    ensures found { HasCleanDisk (state S.Store conn.new) → IfOk result (λ found. (version : Version) →
+        HasRulingCount version all (state S.Store conn.old).now →
         IsUnchanged (state S.Store conn.old) (state S.Store conn.new) × IsGameFound rows.now last.now place game.now
-        found.own.moves found.own.seen found.wrong (state S.Store conn.old).now) }
-    ensures reason_is_right { HasCleanDisk (state S.Store conn.new) → IfErr result (λ e.
-        HasClubTables (state S.Store conn.old).now.schema →
-        NamesTable (state S.Store conn.old).now e ⊎ NamesPlay rows.now (state S.Store conn.old).now e) }
+        found.own.moves found.own.rulings found.own.seen found.wrong version (state S.Store conn.old).now) }
+    ensures reason_is_right { HasCleanDisk (state S.Store conn.new) → IfErr result (λ e. (version : Version) →
+        HasRulingCount version all (state S.Store conn.old).now →
+        NamesTable (state S.Store conn.old).now e ⊎ NamesPlay rows.now version (state S.Store conn.old).now e) }
     ensures later { IfOk result (λ found. (s : ClubState) → HasPeople s rows.now → IsLater found.wrong) }
-    ensures later_fault { HasCleanDisk (state S.Store conn.new) → IfErr result (λ e.
-        HasClubTables (state S.Store conn.old).now.schema →
-        NamesPlayed rows.now (state S.Store conn.old).now e) }
+    ensures later_fault { HasCleanDisk (state S.Store conn.new) → IfErr result (λ e. (version : Version) →
+        HasRulingCount version all (state S.Store conn.old).now →
+        NamesPlayed rows.now version (state S.Store conn.old).now e) }
 {
     let moves = match read_of::<MoveRow, S>(alloc, conn, Table::Moves, game) {
         Ok(moves) => moves,
         Err(fault) => return Err(fault),
     };
-    let seen = match read_seen(alloc, conn, game) {
-        Ok(seen) => seen,
+    let rulings = match read_rulings(alloc, conn, game, all) {
+        Ok(Some(rulings)) => rulings,
+        Ok(None) => return Ok(untyped_rulings(moves.len())),
         Err(fault) => return Err(fault),
     };
-    match seen {
-        Some(seen) => {
+    match read_seen(alloc, conn, game) {
+        Ok(Some(seen)) => {
             let own = GameRows {
                 game,
                 moves: &moves,
+                rulings: &rulings,
                 seen: &seen,
             };
             match found_of(alloc, rows, place, &own, last) {
@@ -249,11 +309,12 @@ fn examine_game<S: Alter>(
                 Err(fault) => Err(fault),
             }
         }
-        None => {
+        Ok(None) => {
             let none: Vec<SeenRow> = Vec::new(alloc);
             let own = GameRows {
                 game,
                 moves: &moves,
+                rulings: &rulings,
                 seen: &none,
             };
             match found_of(alloc, rows, place, &own, last) {
@@ -264,11 +325,12 @@ fn examine_game<S: Alter>(
                 Err(fault) => Err(fault),
             }
         }
+        Err(fault) => Err(fault),
     }
 }
 
-/// Checks the rows of all games, one game at a time, and that no row of moves or of positions belongs to no game.
-/// `all` are the numbers of rows in both tables. Returns the first wrong table: one found here, or `known`, whichever
+/// Checks the rows of all games, one game at a time, and that no row of moves, rulings or positions belongs to no game.
+/// `all` are the numbers of rows in these tables. Returns the first wrong table: one found here, or `known`, whichever
 /// is reported first.
 pub(crate) fn examine_games<S: Alter>(
     alloc: Global,
@@ -281,41 +343,45 @@ pub(crate) fn examine_games<S: Alter>(
     requires last { IsMomentOf rows.now.meta.last last }
     requires known { (t : _) → known ≡ Some t → IsNoRegister rows.now }
     requires known_moves { known ≢ Some Table.Moves }
+    requires known_rulings { known ≢ Some Table.Rulings }
     requires known_games { known ≡ Some Table.Games → ¬ AreApartGames rows.now.games.items }
     requires known_seen { known ≢ Some Table.Seen }
     ensures reads { Reads (is_ok result) (state S.Store conn.old) (state S.Store conn.new) }
-    ensures found { HasCleanDisk (state S.Store conn.new) → IfOk result (λ wrong.
-        HasClubTables (state S.Store conn.old).now.schema → IsTrue (state S.Store conn.old).is_open →
+    ensures found { HasCleanDisk (state S.Store conn.new) → IfOk result (λ wrong. (version : Version) →
+        HasRulingCount version all.rulings (state S.Store conn.old).now → IsTrue (state S.Store conn.old).is_open →
         all.moves ≡ length (moves_in (club_trees (state S.Store conn.old).now)) →
         all.seen ≡ length (seen_in (club_trees (state S.Store conn.old).now)) →
         IsUnchanged (state S.Store conn.old) (state S.Store conn.new) ×
-        AreGamesFound rows.now last wrong (state S.Store conn.old).now) }
+        AreGamesFound rows.now last wrong version (state S.Store conn.old).now) }
     ensures known { IfOk result (λ wrong. wrong ≡ None → known ≡ None) }
     ensures known_after { IfOk result (λ wrong. (u : Table) → IsAfter u wrong → IsAfter u known) }
-    ensures reason_is_right { HasCleanDisk (state S.Store conn.new) → IfErr result (λ e.
-        HasClubTables (state S.Store conn.old).now.schema → IsTrue (state S.Store conn.old).is_open →
+    ensures reason_is_right { HasCleanDisk (state S.Store conn.new) → IfErr result (λ e. (version : Version) →
+        HasRulingCount version all.rulings (state S.Store conn.old).now → IsTrue (state S.Store conn.old).is_open →
         all.moves ≡ length (moves_in (club_trees (state S.Store conn.old).now)) →
         all.seen ≡ length (seen_in (club_trees (state S.Store conn.old).now)) →
-        NamesTable (state S.Store conn.old).now e ⊎ NamesPlay rows.now (state S.Store conn.old).now e) }
+        NamesTable (state S.Store conn.old).now e ⊎ NamesPlay rows.now version (state S.Store conn.old).now e) }
     ensures later { IfOk result (λ wrong. (s : ClubState) → HasPeople s rows.now → IsLater known → IsLater wrong) }
-    ensures later_fault { HasCleanDisk (state S.Store conn.new) → IfErr result (λ e.
-        HasClubTables (state S.Store conn.old).now.schema → IsTrue (state S.Store conn.old).is_open →
+    ensures later_fault { HasCleanDisk (state S.Store conn.new) → IfErr result (λ e. (version : Version) →
+        HasRulingCount version all.rulings (state S.Store conn.old).now → IsTrue (state S.Store conn.old).is_open →
         all.moves ≡ length (moves_in (club_trees (state S.Store conn.old).now)) →
         all.seen ≡ length (seen_in (club_trees (state S.Store conn.old).now)) →
-        NamesPlayed rows.now (state S.Store conn.old).now e) }
+        NamesPlayed rows.now version (state S.Store conn.old).now e) }
 {
     let mut moves = all.moves;
+    let mut rulings = all.rulings;
     let mut seen = all.seen;
     let mut wrong = known;
     for (place, game) in rows.games.iter().enumerate() {
-        let found = match examine_game(alloc, conn, rows, place, game, &last) {
+        let found = match examine_game(alloc, conn, rows, place, game, &last, all.rulings) {
             Ok(found) => found,
             Err(fault) => return Err(fault),
         };
         moves = moves.saturating_sub(found.own.moves);
+        rulings = rulings.saturating_sub(found.own.rulings);
         seen = seen.saturating_sub(found.own.seen);
         wrong = first_of(wrong, found.wrong);
     }
     let with_moves = first_of(wrong, left_over(moves, Table::Moves));
-    Ok(first_of(with_moves, left_over(seen, Table::Seen)))
+    let with_rulings = first_of(with_moves, left_over(rulings, Table::Rulings));
+    Ok(first_of(with_rulings, left_over(seen, Table::Seen)))
 }

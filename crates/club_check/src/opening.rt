@@ -23,9 +23,9 @@ ghost use Rattle.club_audit.specs.internal.Audit.{AreApartGames, HasPeople};
 ghost use Rattle.club_check.specs.internal.Places.{IsMomentOf, IsNoRegister, IsRegisterOf};
 ghost use Rattle.club_check.specs.internal.KnownGames.{NamesUntyped};
 ghost use Rattle.club_check.specs.RightTables.{NamesFirstDamaged};
+ghost use Rattle.club_check.specs.internal.RightMoves.{HasRulingCount};
 ghost use Rattle.club_check.specs.internal.RightTables.{IsLater, NamesExamined, NamesPlayed, NamesScores};
 
-use crate::arbiter::named_with;
 use crate::audit::audit;
 use crate::fault::OpenFault;
 use crate::games::{RowCounts, count_of, examine_games};
@@ -37,33 +37,35 @@ use sqlite::{Alter, Connection};
 use std::alloc::Global;
 use store_tables::{GameTableRow, MoveRow, Rows, ScoreRow, SeenRow, Table, Version};
 
-/// Checks the moves and positions against the games, which were read. Returns the first wrong table: one found here, or
-/// `known`, whichever is reported first.
+/// Checks the moves, rulings and positions against the games, which were read. `rulings` is the number of rulings.
+/// Returns the first wrong table: one found here, or `known`, whichever is reported first.
 fn examine_play<S: Alter>(
     alloc: Global,
     conn: &mut Connection<S>,
     rows: &Rows,
     last: Option<Moment>,
+    rulings: usize,
     known: Option<Table>,
 ) -> Result<Option<Table>, OpenFault>
     requires last { IsMomentOf rows.now.meta.last last }
     requires known { (t : _) → known ≡ Some t → IsNoRegister rows.now }
     requires known_moves { known ≢ Some Table.Moves }
+    requires known_rulings { known ≢ Some Table.Rulings }
     requires known_games { known ≡ Some Table.Games → ¬ AreApartGames rows.now.games.items }
     requires known_seen { known ≢ Some Table.Seen }
     ensures reads { Reads (is_ok result) (state S.Store conn.old) (state S.Store conn.new) }
-    ensures found { HasCleanDisk (state S.Store conn.new) → IfOk result (λ wrong.
-        HasClubTables (state S.Store conn.old).now.schema →
-        IsPlayExamined rows.now last wrong (state S.Store conn.old) (state S.Store conn.new)) }
+    ensures found { HasCleanDisk (state S.Store conn.new) → IfOk result (λ wrong. (version : Version) →
+        HasRulingCount version rulings (state S.Store conn.old).now →
+        IsPlayExamined rows.now last wrong version (state S.Store conn.old) (state S.Store conn.new)) }
     ensures known { IfOk result (λ wrong. wrong ≡ None → known ≡ None) }
     ensures known_after { IfOk result (λ wrong. (u : Table) → IsAfter u wrong → IsAfter u known) }
-    ensures reason_is_right { HasCleanDisk (state S.Store conn.new) → IfErr result (λ e.
-        HasClubTables (state S.Store conn.old).now.schema →
-        NamesTable (state S.Store conn.old).now e ⊎ NamesPlay rows.now (state S.Store conn.old).now e) }
+    ensures reason_is_right { HasCleanDisk (state S.Store conn.new) → IfErr result (λ e. (version : Version) →
+        HasRulingCount version rulings (state S.Store conn.old).now →
+        NamesTable (state S.Store conn.old).now e ⊎ NamesPlay rows.now version (state S.Store conn.old).now e) }
     ensures later { IfOk result (λ wrong. (s : ClubState) → HasPeople s rows.now → IsLater known → IsLater wrong) }
-    ensures later_fault { HasCleanDisk (state S.Store conn.new) → IfErr result (λ e.
-        HasClubTables (state S.Store conn.old).now.schema →
-        NamesPlayed rows.now (state S.Store conn.old).now e) }
+    ensures later_fault { HasCleanDisk (state S.Store conn.new) → IfErr result (λ e. (version : Version) →
+        HasRulingCount version rulings (state S.Store conn.old).now →
+        NamesPlayed rows.now version (state S.Store conn.old).now e) }
 {
     let moves = match count_of::<MoveRow, S>(alloc, conn, Table::Moves) {
         Ok(count) => count,
@@ -73,28 +75,37 @@ fn examine_play<S: Alter>(
         Ok(count) => count,
         Err(fault) => return Err(fault),
     };
-    match examine_games(alloc, conn, rows, last, RowCounts { moves, seen }, known) {
+    let all = RowCounts {
+        moves,
+        rulings,
+        seen,
+    };
+    match examine_games(alloc, conn, rows, last, all, known) {
         Ok(wrong) => Ok(wrong),
         Err(fault) => Err(fault),
     }
 }
 
-/// The error if a row of games has a value of the wrong type: wrong moves are reported first, then the games.
+/// The error if a row of games has a value of the wrong type: wrong moves are reported first, then wrong rulings, then
+/// the games.
 fn named_by(wrong: Option<Table>) -> OpenFault
     ensures moves { wrong ≡ Some Table.Moves → result ≡ OpenFault.Damaged Table.Moves }
-    ensures games { wrong ≢ Some Table.Moves → result ≡ OpenFault.Damaged Table.Games }
+    ensures rulings { wrong ≡ Some Table.Rulings → result ≡ OpenFault.Damaged Table.Rulings }
+    ensures games { wrong ≢ Some Table.Moves → wrong ≢ Some Table.Rulings → result ≡ OpenFault.Damaged Table.Games }
 {
     match wrong {
         Some(Table::Moves) => OpenFault::Damaged(Table::Moves),
+        Some(Table::Rulings) => OpenFault::Damaged(Table::Rulings),
         _ => OpenFault::Damaged(Table::Games),
     }
 }
 
 /// The error if a row of games has a value of the wrong type and reading the moves returned this error.
 fn named_for(fault: OpenFault) -> OpenFault
-    ensures damaged { (t : Table) → fault ≡ OpenFault.Damaged t →
-        ((t ≡ Table.Moves) × (result ≡ OpenFault.Damaged Table.Moves))
-        ⊎ ((t ≢ Table.Moves) × (result ≡ OpenFault.Damaged Table.Games)) }
+    ensures moves { fault ≡ OpenFault.Damaged Table.Moves → result ≡ OpenFault.Damaged Table.Moves }
+    ensures rulings { fault ≡ OpenFault.Damaged Table.Rulings → result ≡ OpenFault.Damaged Table.Rulings }
+    ensures games { (t : Table) → fault ≡ OpenFault.Damaged t → t ≢ Table.Moves → t ≢ Table.Rulings →
+        result ≡ OpenFault.Damaged Table.Games }
     ensures other { ((t : Table) → fault ≢ OpenFault.Damaged t) → result ≡ fault }
 {
     match fault {
@@ -129,19 +140,21 @@ fn with_games(rows: Rows, judged: Vec<GameTableRow>) -> Rows
 }
 
 /// The error if a row of games has a value of the wrong type: challenges that are wrong by the ids, events and players
-/// that were read; else wrong moves; else the games.
+/// that were read; else wrong moves; else wrong rulings; else the games. `rulings` is the number of rulings.
 pub(crate) fn name_untyped<S: Alter>(
     alloc: Global,
     conn: &mut Connection<S>,
     rows: Rows,
     judged: Vec<GameTableRow>,
+    rulings: usize,
 ) -> OpenFault
     ensures reads { Reads false (state S.Store conn.old) (state S.Store conn.new) }
-    ensures first_damaged { HasCleanDisk (state S.Store conn.new) →
-        HasClubTables (state S.Store conn.old).now.schema →
+    ensures first_damaged { HasCleanDisk (state S.Store conn.new) → (version : Version) →
+        HasRulingCount version rulings (state S.Store conn.old).now →
         (s : ClubState) → HasPeople s rows → HaveIds (record rows { games = judged }) →
-        NamesUntyped rows (record rows { games = judged }) (state S.Store conn.old).now result }
-    ensures faults { HasCleanDisk (state S.Store conn.new) → HasClubTables (state S.Store conn.old).now.schema →
+        NamesUntyped rows (record rows { games = judged }) version (state S.Store conn.old).now result }
+    ensures faults { HasCleanDisk (state S.Store conn.new) → (version : Version) →
+        HasRulingCount version rulings (state S.Store conn.old).now →
         (result ≡ OpenFault.Store) ⊎ ((result ≡ OpenFault.Memory) ⊎
         ((t : Table) × (result ≡ OpenFault.Damaged t))) }
 {
@@ -150,7 +163,7 @@ pub(crate) fn name_untyped<S: Alter>(
         Err(fault) => return fault,
     }
     let rows = with_games(rows, judged);
-    match examine_play(alloc, conn, &rows, to_moment(rows.meta.last), None) {
+    match examine_play(alloc, conn, &rows, to_moment(rows.meta.last), rulings, None) {
         Ok(wrong) => named_by(wrong),
         Err(fault) => named_for(fault),
     }
@@ -166,9 +179,9 @@ fn examine_scores<S: Alter>(
     ensures found { HasCleanDisk (state S.Store conn.new) → OnOk result (
         HasClubTables (state S.Store conn.old).now.schema →
         AreScoresExamined rows.now (state S.Store conn.old) (state S.Store conn.new)) }
-    ensures reason_is_right { HasCleanDisk (state S.Store conn.new) → IfErr result (λ e.
+    ensures reason_is_right { HasCleanDisk (state S.Store conn.new) → IfErr result (λ e. (version : Version) →
         HasClubTables (state S.Store conn.old).now.schema →
-        NamesTable (state S.Store conn.old).now e ⊎ NamesPlay rows.now (state S.Store conn.old).now e) }
+        NamesTable (state S.Store conn.old).now e ⊎ NamesPlay rows.now version (state S.Store conn.old).now e) }
     ensures scores { HasCleanDisk (state S.Store conn.new) → IfErr result (λ e.
         HasClubTables (state S.Store conn.old).now.schema →
         NamesScores rows.now (state S.Store conn.old).now e) }
@@ -353,39 +366,37 @@ fn check_since<S: Alter>(
         Ok(found) => found,
         Err(fault) => return Err(fault),
     };
-    match examine_rows(alloc, conn, &register.rows) {
-        Ok(()) => {}
-        Err(fault) => return Err(named_with(rulings, fault)),
+    match examine_rows(alloc, conn, &register.rows, rulings) {
+        Ok(()) => Ok(register),
+        Err(fault) => Err(fault),
     }
-    if rulings > 0 {
-        return Err(OpenFault::Damaged(Table::Rulings));
-    }
-    Ok(register)
 }
 
-/// Checks these rows, which were read, with the moves, positions and scores, which are read here.
+/// Checks these rows, which were read, with the moves, rulings, positions and scores, which are read here. `rulings` is
+/// the number of rulings.
 fn examine_rows<S: Alter>(
     alloc: Global,
     conn: &mut Connection<S>,
     rows: &Rows,
+    rulings: usize,
 ) -> Result<(), OpenFault>
     ensures reads { Reads (is_ok result) (state S.Store conn.old) (state S.Store conn.new) }
-    ensures found { HasCleanDisk (state S.Store conn.new) → OnOk result (
-        HasClubTables (state S.Store conn.old).now.schema →
-        AreExamined rows.now (state S.Store conn.old) (state S.Store conn.new)) }
-    ensures reason_is_right { HasCleanDisk (state S.Store conn.new) → IfErr result (λ e.
-        HasClubTables (state S.Store conn.old).now.schema →
-        NamesTable (state S.Store conn.old).now e ⊎ NamesPlay rows.now (state S.Store conn.old).now e) }
-    ensures examined { HasCleanDisk (state S.Store conn.new) → IfErr result (λ e.
-        HasClubTables (state S.Store conn.old).now.schema → (s : ClubState) → HasPeople s rows.now →
-        HaveIds rows.now → NamesExamined rows.now (state S.Store conn.old).now e) }
+    ensures found { HasCleanDisk (state S.Store conn.new) → OnOk result ((version : Version) →
+        HasRulingCount version rulings (state S.Store conn.old).now →
+        AreExamined rows.now version (state S.Store conn.old) (state S.Store conn.new)) }
+    ensures reason_is_right { HasCleanDisk (state S.Store conn.new) → IfErr result (λ e. (version : Version) →
+        HasRulingCount version rulings (state S.Store conn.old).now →
+        NamesTable (state S.Store conn.old).now e ⊎ NamesPlay rows.now version (state S.Store conn.old).now e) }
+    ensures examined { HasCleanDisk (state S.Store conn.new) → IfErr result (λ e. (version : Version) →
+        HasRulingCount version rulings (state S.Store conn.old).now → (s : ClubState) → HasPeople s rows.now →
+        HaveIds rows.now → NamesExamined rows.now version (state S.Store conn.old).now e) }
 {
     let known = match audit(alloc, rows) {
         Ok(known) => known,
         Err(fault) => return Err(fault),
     };
     let last = to_moment(rows.meta.last);
-    let wrong = match examine_play(alloc, conn, rows, last, known) {
+    let wrong = match examine_play(alloc, conn, rows, last, rulings, known) {
         Ok(wrong) => wrong,
         Err(fault) => return Err(fault),
     };

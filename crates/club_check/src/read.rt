@@ -37,7 +37,7 @@ ghost use Rattle.store_sql.specs.internal.Read.{IsReadAs};
 ghost use Rattle.schema_match.specs.Shapes.{is_of_club};
 ghost use Rattle.schema_match.specs.internal.TableVersions.{has_version};
 
-use crate::arbiter::{count_rulings, named_with, read_closings, read_keys};
+use crate::arbiter::{count_rulings, read_closings, read_keys};
 use crate::fault::OpenFault;
 use crate::known::{GameRows, read_games};
 use crate::opening::name_untyped;
@@ -750,7 +750,7 @@ pub(crate) fn read_rows<S: Alter>(
         games,
     };
     if !are_typed {
-        return Err(named_with(rulings, name_untyped(alloc, conn, rows, judged)));
+        return Err(name_untyped(alloc, conn, rows, judged, rulings));
     }
     Ok(RegisterRows {
         register: Register { version, rows },

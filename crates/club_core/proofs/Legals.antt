@@ -1,27 +1,33 @@
 -- A step on a game leaves a legal game legal.
-use Rattle.std.proofs.Common.{◌≡◌, ℕ, ◌+◌, ◌-◌, ◌<◌, ◌≤◌, List, [], ◌∷◌, ◌++◌, length, map, Option, Some, None, Result}
-use Rattle.std.proofs.Common.{Ok, Err, Bool, true, false, refl, sym, ◌∙◌, arith, length-append, ◌⊎◌, inl, inr}
-use Rattle.std.specs.Prelude.{if◌then◌else◌, is_some, IsSome, IfSome, ◌↔◌}
+use Rattle.std.proofs.Common.{◌≡◌, ℕ, zero, suc, ◌+◌, ◌-◌, ◌<◌, ◌≤◌, List, [], ◌∷◌, ◌++◌, length, map, Option, Some}
+use Rattle.std.proofs.Common.{None, Result, Ok, Err, Bool, true, false, refl, sym, ap, ◌∙◌, arith, add-one}
+use Rattle.std.proofs.Common.{length-append, ◌⊎◌, inl, inr}
+use Rattle.std.specs.Prelude.{if◌then◌else◌, is_some, IsSome, IfSome, ◌↔◌, slice_get}
 use Rattle.std.proofs.Math.Nat.{eq-or-lt_of_le}
 use Rattle.std.proofs.lemmas.Bool.{ltb-false}
 use Rattle.std.proofs.lemmas.List.{map-append, length-map}
 use Rattle.squares.specs.declared.sides.Side.{Side}
 use Rattle.squares.specs.declared.sides.Side.TheVariants.{First}
+use Rattle.squares.specs.declared.sides.Score.{Score}
 use Rattle.squares.specs.Sides.{other}
 use Rattle.club_rules.specs.declared.refusals.MoveRefusal.{MoveRefusal}
 use Rattle.club_rules.specs.GameRules.{GameRules, ply_limit}
 use Rattle.club_rules.specs.Line.{IsLegalLine}
 use Rattle.club_requests.specs.declared.outside_end.OutsideEnd.{OutsideEnd}
+use Rattle.club_requests.specs.declared.outside_end.OutsideEnd.TheVariants.{Time, Recorded}
 use Rattle.club_core.specs.declared.rows.Offer.{Offer}
 use Rattle.club_requests.specs.declared.refusals.Refusal.{Refusal}
 use Rattle.club_core.specs.Events.{Terms}
 use Rattle.club_requests.specs.Outcome.{first_refusal}
-use Rattle.club_core.specs.Game.{Game, Clocks, turns, spend, spend_all, moves_of, clocks_of, last_position, rule_end}
-use Rattle.club_core.specs.Game.{end_of, turn_of, result_of, end_with, left_of, side_after}
-use Rattle.club_core.specs.Legal.{IsTimely, IsOffer, IsLegalGame, MayEndBy}
+use Rattle.club_core.specs.Rulings.{GivenRuling, verdict_of, first_verdict}
+use Rattle.club_core.specs.Game.{Entry, Game, Clocks, turns, after_rulings, spend, spend_all, moves_of, clocks_of}
+use Rattle.club_core.specs.Game.{last_position, rule_end, end_of, turn_of, left_of, side_after}
+use Rattle.club_core.specs.Legal.{IsTimely, IsOffer, IsLegalGame, MayEndBy, IsVerdict, AreLegalRulings, moment_or}
+use Rattle.club_core.specs.Legal.{moment_at}
 use Rattle.club_core.specs.Step.{played, offered, ended, checked, checked_as, move_tests, move_refusal}
 use Rattle.club_rules.proofs.Proved.{IsPlayedLine-append}
-use Rattle.club_core.proofs.Played.{moves_of-played, turn-of-game, outside-alone, score-none}
+use Rattle.club_core.proofs.GrantLemmas.{AreFrom, are_from-fewer, after-more, none-verdict, no-first_verdict}
+use Rattle.club_core.proofs.Played.{moves_of-played, turn-of-game, no-rule-end, verdict-alone, outside-alone}
 
 -- the laws that the rules of a game keep
 pub record AreRules {P M E T : Type 0} (laws : GameRules P M E T) : Type 0 where
@@ -44,13 +50,36 @@ are_rules laws starts passes same ends = record {
 }
 
 -- one more move in time
-pub is_timely-append : (increment : ℕ) (side : Side) (ms : List ℕ) (m : ℕ) (c : Clocks) → IsTimely increment side ms c
-    → (spend_all increment side ms c).since ≤ m
-    → m - (spend_all increment side ms c).since ≤ left_of (turns (length ms) side) (spend_all increment side ms c)
-    → IsTimely increment side (ms ++ m ∷ []) c
-is_timely-append increment side [] m c timely later in_time = (later, in_time, tt)
-is_timely-append increment side (x ∷ xs) m c timely later in_time =
-    (timely.0, timely.1, is_timely-append increment (other side) xs m (spend increment side x c) timely.2 later in_time)
+pub is_timely-append : (increment : ℕ) (rs : List GivenRuling) (plies n : ℕ) (side : Side) (ms : List ℕ) (m : ℕ)
+    (c : Clocks) → n ≡ plies + length ms → IsTimely increment rs plies side ms c
+    → (after_rulings rs n (spend_all increment rs plies side ms c)).since ≤ m
+    → m - (after_rulings rs n (spend_all increment rs plies side ms c)).since
+    ≤ left_of (turns (length ms) side) (after_rulings rs n (spend_all increment rs plies side ms c))
+    → IsTimely increment rs plies side (ms ++ m ∷ []) c
+is_timely-append increment rs plies n side [] m c is timely later in_time =
+    let e : n ≡ plies = omega (arith, is) in
+    (rw e at later, rw e at in_time, tt)
+is_timely-append increment rs plies n side (x ∷ xs) m c is timely later in_time = (
+  timely.0,
+  timely.1,
+  is_timely-append increment rs (suc plies) n (other side) xs m (spend increment side x (after_rulings rs plies c))
+      (omega (arith, is, add-one plies, add-one (length xs))) timely.2 later in_time,
+)
+
+-- rulings that came after these moves leave them timely
+pub is_timely-more : (increment : ℕ) (rs more : List GivenRuling) (plies n : ℕ) (side : Side) (ms : List ℕ)
+    (c : Clocks) → n ≡ plies + length ms → AreFrom more n → IsTimely increment rs plies side ms c
+    → IsTimely increment (rs ++ more) plies side ms c
+is_timely-more increment rs more plies n side [] c is from timely = tt
+is_timely-more increment rs more plies n side (m ∷ ms) c is from timely =
+    rw (after-more rs more plies c
+    (are_from-fewer more (suc plies) n (omega (arith, is, add-one plies, add-one (length ms))) from)) (
+      timely.0,
+      timely.1,
+      is_timely-more increment rs more (suc plies) n (other side) ms
+          (spend increment side m (after_rulings rs plies c))
+          (omega (arith, is, add-one plies, add-one (length ms))) from timely.2,
+    )
 
 -- no test holds
 abbrev pub NoneHolds : List (Bool × Refusal) → Type 0
@@ -73,16 +102,12 @@ pub not-some : {A : Type 0} (o : Option A) → is_some o ≡ false → o ≡ Non
 not-some None is = refl
 not-some (Some x) is = cc
 
-pub no-rule-end : {E : Type 0} (e : Option E) (o : Option OutsideEnd) → end_with e o ≡ None → e ≡ None
-no-rule-end (Some e) o is = cc
-no-rule-end None o is = refl
-
 module _ {P M E T : Type 0} (laws : GameRules P M E T) (terms : Terms) (game : Game M) (moment : ℕ) where
   -- where a new move is allowed, the game is running
   pub allowed-running : (side : Side) (ply : ℕ) (text : List ℕ)
-      → move_refusal laws terms game moment side ply text ≡ None → result_of laws game ≡ None
+      → move_refusal laws terms game moment side ply text ≡ None → end_of laws game ≡ None
   allowed-running side ply text allowed =
-      not-some (result_of laws game) (none-holds (move_tests laws terms game moment side ply text) allowed).0
+      not-some (end_of laws game) (none-holds (move_tests laws terms game moment side ply text) allowed).0
 
   -- and the side to move has not used all its seconds
   pub allowed-in_time : (side : Side) (ply : ℕ) (text : List ℕ)
@@ -103,6 +128,47 @@ module _ {P M E T : Type 0} (laws : GameRules P M E T) (terms : Terms) (game : G
           let e : n ≡ m = cc in
           rw (← e) at
 
+-- a game without rulings
+pub no-rulings : {P M E T : Type 0} (laws : GameRules P M E T) (terms : Terms) (game : Game M) → game.rulings ≡ []
+    → AreLegalRulings laws terms game
+no-rulings laws terms game none =
+    let nothing : (n : ℕ) (r : GivenRuling) → slice_get game.rulings n ≡ Some r → ⊥ = λ n r at.
+    let empty : slice_get [] n ≡ Some r = rw none at at in
+    absurd cc in
+    let count : length game.rulings ≡ 0 = ap length none in
+    record {
+      count = omega (arith, count);
+      each = λ n r at. absurd (nothing n r at);
+      in_order = λ n r next at at_next. absurd (nothing n r at);
+      verdict_alone = λ some. let clash : false ≡ true = rw none at some in absurd cc;
+      before_rule_end = λ ended n r at. absurd (nothing n r at);
+      recorded = λ score is n r at. absurd (nothing n r at);
+      lost_by_time = λ is. rw none tt;
+    }
+
+-- a list with one more element is the same before it
+kept-get : {A : Type 0} (xs : List A) (x : A) (n : ℕ) → n < length xs → slice_get (xs ++ x ∷ []) n ≡ slice_get xs n
+kept-get [] x n within = absurd (omega (arith, within))
+kept-get (y ∷ ys) x zero within = refl
+kept-get (y ∷ ys) x (suc n) within = kept-get ys x n (omega (arith, within, add-one n, add-one (length ys)))
+
+-- the timestamp of a ply is the same with one more entry
+moment-kept : {M : Type 0} (start : ℕ) (entries : List (Entry M)) (e : Entry M) (plies : ℕ) → plies ≤ length entries
+    → moment_at start (entries ++ e ∷ []) plies ≡ moment_at start entries plies
+moment-kept start entries e zero within = refl
+moment-kept start entries e (suc n) within =
+    ap (moment_or start) (kept-get entries e n (omega (arith, within, add-one n)))
+
+-- the next entry is the same, or the new one
+before-kept : {M : Type 0} (entries : List (Entry M)) (e : Entry M) (plies moment : ℕ) → plies ≤ length entries
+    → IfSome (slice_get entries plies) (λ x. moment ≤ x.moment) → moment ≤ e.moment
+    → IfSome (slice_get (entries ++ e ∷ []) plies) (λ x. moment ≤ x.moment)
+before-kept [] e zero moment within is new = new
+before-kept [] e (suc n) moment within is new = absurd (omega (arith, within, add-one n))
+before-kept (x ∷ xs) e zero moment within is new = is
+before-kept (x ∷ xs) e (suc n) moment within is new =
+    before-kept xs e n moment (omega (arith, within, add-one n, add-one (length xs))) is new
+
 module _ {P M E T : Type 0} (laws : GameRules P M E T) (are_rules : AreRules laws) (terms : Terms) (game : Game M)
     (legal : IsLegalGame laws terms game) where
   room : rule_end laws game ≡ None → length game.entries < ply_limit
@@ -122,14 +188,73 @@ module _ {P M E T : Type 0} (laws : GameRules P M E T) (are_rules : AreRules law
   none-outside new None none = tt
   none-outside new (Some o) none = absurd cc
 
+  -- rulings that were given until then stay legal with one more move in a running game
+  rulings-played : (m : M) (moment : ℕ) → end_of laws game ≡ None
+      → ((n : ℕ) (r : GivenRuling) → slice_get game.rulings n ≡ Some r → r.moment ≤ moment)
+      → AreLegalRulings laws terms (played game m moment)
+  rulings-played m moment running until =
+      let e : Entry M = record { made = m; moment = moment } in
+      let old = legal.rulings in
+      let none : verdict_of game.rulings ≡ None = verdict-alone (rule_end laws game) _ game.outside running in
+      let alone : game.outside ≡ None = outside-alone (rule_end laws game) _ _ running in
+      let count : length (game.entries ++ e ∷ []) ≡ length game.entries + 1 = simp length-append in
+      record {
+        count = old.count;
+        each = λ n r at.
+            let is = old.each n r at in
+            let within = is.plies in
+            record {
+              plies = omega (arith, count, within);
+              after_move = rw (moment-kept game.start game.entries e r.plies within) is.after_move;
+              before_move = before-kept game.entries e r.plies r.moment within is.before_move (until n r at);
+              time = is.time;
+              last = λ verdict.
+                  let clash : false ≡ true = rw (none-verdict game.rulings none n r at) at verdict in
+                  absurd cc;
+            };
+        in_order = old.in_order;
+        verdict_alone = λ some. let clash : false ≡ true = rw none at some in absurd cc;
+        before_rule_end = λ ended n r at. let within = (old.each n r at).plies in omega (arith, count, within);
+        recorded = λ score is. let clash : None ≡ Some (Recorded score) = sym alone ∙ is in absurd cc;
+        lost_by_time = λ is. let clash : None ≡ Some Time = sym alone ∙ is in absurd cc;
+      }
+
+  -- they stay legal with an offer or an end from outside
+  rulings-kept : (offer : Option Offer) (outside : Option OutsideEnd)
+      → ((score : Score) → outside ≡ Some (Recorded score) → (n : ℕ) (r : GivenRuling)
+      → slice_get game.rulings n ≡ Some r → IsVerdict r)
+      → (outside ≡ Some Time → IfSome (first_verdict game.rulings)
+      (λ r. (clocks_of game terms).since + left_of (turn_of laws game) (clocks_of game terms) < r.moment))
+      → AreLegalRulings laws terms (record game { offer = offer; outside = outside })
+  rulings-kept offer outside recorded lost =
+      let old = legal.rulings in
+      record {
+        count = old.count;
+        each = λ n r at.
+            let is = old.each n r at in
+            record {
+              plies = is.plies;
+              after_move = is.after_move;
+              before_move = is.before_move;
+              time = is.time;
+              last = is.last;
+            };
+        in_order = old.in_order;
+        verdict_alone = old.verdict_alone;
+        before_rule_end = old.before_rule_end;
+        recorded = recorded;
+        lost_by_time = lost;
+      }
+
   -- a legal game is legal with one more legal move in time
-  pub legal-played : (m : M) (moment : ℕ) → result_of laws game ≡ None → (clocks_of game terms).since ≤ moment
+  pub legal-played : (m : M) (moment : ℕ) → end_of laws game ≡ None
+      → ((n : ℕ) (r : GivenRuling) → slice_get game.rulings n ≡ Some r → r.moment ≤ moment)
+      → (clocks_of game terms).since ≤ moment
       → moment - (clocks_of game terms).since ≤ left_of (turn_of laws game) (clocks_of game terms)
       → laws.check (last_position laws game) m ≡ Ok tt → IsLegalGame laws terms (played game m moment)
-  legal-played m moment running later in_time ok =
-      let no_end : end_of laws game ≡ None = score-none laws (end_of laws game) (turn_of laws game) running in
-      let no_rule : rule_end laws game ≡ None = no-rule-end (rule_end laws game) game.outside no_end in
-      let no_outside : game.outside ≡ None = outside-alone (rule_end laws game) game.outside no_end in
+  legal-played m moment running until later in_time ok =
+      let no_rule : rule_end laws game ≡ None = no-rule-end (rule_end laws game) _ game.outside running in
+      let no_outside : game.outside ≡ None = outside-alone (rule_end laws game) _ _ running in
       let count : length (game.entries ++ record { made = m; moment = moment } ∷ []) ≡ length game.entries + 1 =
       simp length-append in
       let below : length game.entries < ply_limit = room no_rule in
@@ -142,26 +267,26 @@ module _ {P M E T : Type 0} (laws : GameRules P M E T) (are_rules : AreRules law
         plies = omega (arith, count, below);
         timely =
             rw (map-append (λ e. e.moment) game.entries (record { made = m; moment = moment } ∷ []))
-            (is_timely-append terms.increment First (map (λ e. e.moment) game.entries) moment _ legal.timely later
+            (is_timely-append terms.increment game.rulings 0 (length game.entries) First
+            (map (λ e. e.moment) game.entries) moment _ (omega (arith, moments)) legal.timely later
             (rw (moments, ← side) in_time));
         outside_alone = λ some. let none : false ≡ true = rw no_outside at some in absurd cc;
         offer = tt;
         outside = none-outside (played game m moment) game.outside no_outside;
         players = legal.players;
+        rulings = rulings-played m moment running until;
       }
 
   -- in a running game the rules gave no end
-  pub running-rule : result_of laws game ≡ None → rule_end laws game ≡ None
-  running-rule running = no-rule-end (rule_end laws game) game.outside
-      (score-none laws (end_of laws game) (turn_of laws game) running)
+  pub running-rule : end_of laws game ≡ None → rule_end laws game ≡ None
+  running-rule running = no-rule-end (rule_end laws game) _ game.outside running
 
   -- and nothing ended it from outside
-  pub running-alone : result_of laws game ≡ None → game.outside ≡ None
-  running-alone running = outside-alone (rule_end laws game) game.outside
-      (score-none laws (end_of laws game) (turn_of laws game) running)
+  pub running-alone : end_of laws game ≡ None → game.outside ≡ None
+  running-alone running = outside-alone (rule_end laws game) _ _ running
 
   -- a legal game is legal with an offer of its next ply
-  pub legal-offered : (side : Side) (ply : ℕ) → result_of laws game ≡ None → laws.has_draw_offers ≡ true
+  pub legal-offered : (side : Side) (ply : ℕ) → end_of laws game ≡ None → laws.has_draw_offers ≡ true
       → ply ≡ length game.entries + 1 → IsLegalGame laws terms (offered game (record { side = side; ply = ply }))
   legal-offered side ply running draws next =
       let no_outside : game.outside ≡ None = running-alone running in
@@ -173,6 +298,8 @@ module _ {P M E T : Type 0} (laws : GameRules P M E T) (are_rules : AreRules law
         offer = record { allowed = draws; next_ply = next; no_rule_end = running-rule running };
         outside = none-outside (offered game (record { side = side; ply = ply })) game.outside no_outside;
         players = legal.players;
+        rulings = rulings-kept (Some (record { side = side; ply = ply })) game.outside legal.rulings.recorded
+            legal.rulings.lost_by_time;
       }
 
   offer-stays : (end : OutsideEnd) (offer : Option Offer) → IfSome offer (λ o. IsOffer laws game o)
@@ -181,10 +308,11 @@ module _ {P M E T : Type 0} (laws : GameRules P M E T) (are_rules : AreRules law
   offer-stays end (Some offer) is =
       record { allowed = is.allowed; next_ply = is.next_ply; no_rule_end = is.no_rule_end }
 
-  -- a running legal game is legal with an end from outside
-  pub legal-ended : (end : OutsideEnd) → result_of laws game ≡ None → MayEndBy laws terms (ended game end) end
-      → IsLegalGame laws terms (ended game end)
-  legal-ended end running may =
+  -- a running legal game is legal with an end from outside, but that of a record beside no ruling
+  pub legal-ended : (end : OutsideEnd) → end_of laws game ≡ None → MayEndBy laws terms (ended game end) end
+      → ((score : Score) → end ≡ Recorded score → game.rulings ≡ []) → IsLegalGame laws terms (ended game end)
+  legal-ended end running may no_ruling =
+      let none : verdict_of game.rulings ≡ None = verdict-alone (rule_end laws game) _ game.outside running in
       record {
         line = legal.line;
         plies = legal.plies;
@@ -193,4 +321,9 @@ module _ {P M E T : Type 0} (laws : GameRules P M E T) (are_rules : AreRules law
         offer = offer-stays end game.offer legal.offer;
         outside = may;
         players = legal.players;
+        rulings = rulings-kept game.offer (Some end)
+            (λ score is n r at.
+            let e : end ≡ Recorded score = cc in
+            let nothing : slice_get [] n ≡ Some r = rw (no_ruling score e) at at in
+            absurd cc) (λ is. rw (no-first_verdict game.rulings none) tt);
       }

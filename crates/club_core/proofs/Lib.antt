@@ -1,9 +1,13 @@
+pub mod ClockExamples
 pub mod Finds
+pub mod GrantLemmas
 pub mod KeyLemmas
 pub mod Legals
+pub mod Moved
 pub mod Offered
 pub mod Played
 pub mod PlayedLines
 pub mod Proved
+pub mod RulingLemmas
 pub mod Tracked
 pub mod Turns

@@ -13,24 +13,20 @@ use Rattle.squares.specs.Sides.{other, same_side}
 use Rattle.club_rules.specs.GameRules.{GameRules}
 use Rattle.club_rules.specs.Line.{position_after, IsLegalLine}
 use Rattle.club_rules.proofs.Proved.{position_after-append, position_after-take, check-at}
-use Rattle.club_core.specs.declared.rows.GameEnd.{GameEnd}
 use Rattle.club_core.specs.declared.rows.GameEnd.TheVariants.{Rule}
 use Rattle.club_requests.specs.declared.outside_end.OutsideEnd.{OutsideEnd}
+use Rattle.club_requests.specs.declared.rulings.Verdict.{Verdict}
 use Rattle.club_core.specs.declared.rows.Asked.{Asked}
 use Rattle.club_core.specs.Events.{Terms}
 use Rattle.club_requests.specs.Outcome.{MoveReply, moved}
-use Rattle.club_core.specs.Game.{Game, Clocks, turns, spend, spend_all, moves_of, clocks_of, last_position, rule_end}
-use Rattle.club_core.specs.Game.{end_of, turn_of, result_of, end_with, score_with, left_of, side_after, game_at}
+use Rattle.club_core.specs.Rulings.{verdict_of}
+use Rattle.club_core.specs.Game.{Game, turns, spend, moves_of, opening_clocks, clocks_of, clocks_then, last_position}
+use Rattle.club_core.specs.Game.{rule_end, end_of, turn_of, end_with, left_of, side_after, game_at}
 use Rattle.club_core.specs.Legal.{IsLegalGame}
 use Rattle.club_core.specs.Step.{played, move_at, repeat_of, reply_of_move, reads_as}
 use Rattle.club_core.specs.View.{IsAsked}
 use Rattle.club_core.specs.internal.View.{rule_in}
-
--- one more move spends from the side whose turn it is
-pub spend_all-append : (increment : ℕ) (s : Side) (ms : List ℕ) (m : ℕ) (c : Clocks)
-    → spend_all increment s (ms ++ m ∷ []) c ≡ spend increment (turns (length ms) s) m (spend_all increment s ms c)
-spend_all-append increment s [] m c = refl
-spend_all-append increment s (x ∷ ms) m c = spend_all-append increment (other s) ms m (spend increment s x c)
+use Rattle.club_core.proofs.GrantLemmas.{AreUpTo, after-none, spend_all-append}
 
 -- on a legal line the side to move is the one after that many plies
 pub turn-is : {P M E T : Type 0} (game_rules : GameRules P M E T)
@@ -46,9 +42,25 @@ module _ {M : Type 0} (game : Game M) (m : M) (moment : ℕ) where
   pub moves_of-played : moves_of (played game m moment) ≡ moves_of game ++ m ∷ []
   moves_of-played = map-append (λ e. e.made) game.entries (record { made = m; moment = moment } ∷ [])
 
-  pub clocks_of-played : (terms : Terms) → clocks_of (played game m moment) terms
+  pub clocks_then-played : (terms : Terms) → clocks_then (played game m moment) terms
       ≡ spend terms.increment (turns (length game.entries) First) moment (clocks_of game terms)
-  clocks_of-played terms = simp (map-append, spend_all-append, length-map)
+  clocks_then-played terms =
+      let moments = map (λ e. e.moment) game.entries in
+      let more : map (λ e. e.moment) (game.entries ++ record { made = m; moment = moment } ∷ [])
+      ≡ moments ++ moment ∷ [] =
+      map-append (λ e. e.moment) game.entries (record { made = m; moment = moment } ∷ []) in
+      let count : length moments ≡ length game.entries = simp length-map in
+      let spent = spend_all-append terms.increment game.rulings 0 (length game.entries) First moments moment
+      (opening_clocks game terms) (omega (arith, count)) in
+      rw more (spent ∙ ap (λ n. spend terms.increment (turns n First) moment (clocks_of game terms)) count)
+
+  -- nothing was granted after a move that was just played
+  pub clocks_of-played : AreUpTo game.rulings (length game.entries) → (terms : Terms)
+      → clocks_of (played game m moment) terms ≡ clocks_then (played game m moment) terms
+  clocks_of-played up_to terms =
+      let count : length (game.entries ++ record { made = m; moment = moment } ∷ []) ≡ length game.entries + 1 =
+      simp length-append in
+      after-none game.rulings (length game.entries) _ _ up_to (omega (arith, count))
 
 -- the list before its last element, and with it
 pub take-before : {A : Type 0} (xs : List A) (x : A) → take (length xs + 1 - 1) (xs ++ x ∷ []) ≡ xs
@@ -72,17 +84,26 @@ moved-same a b ply text left position end =
     ∙ ap (λ x. moved (record { ply = b.ply; text = b.text; left = b.left; position = x; end = a.end })) position
     ∙ ap (λ x. moved (record { ply = b.ply; text = b.text; left = b.left; position = b.position; end = x })) end
 
-pub outside-alone : {E : Type 0} (e : Option E) (o : Option OutsideEnd) → end_with e o ≡ None → o ≡ None
-outside-alone (Some e) o none = cc
-outside-alone None (Some o) none = cc
-outside-alone None None none = refl
+-- where nothing ended a game, neither a rule, nor the arbiter, nor a reason outside the rules did
+pub no-rule-end : {E : Type 0} (e : Option E) (v : Option Verdict) (o : Option OutsideEnd) → end_with e v o ≡ None
+    → e ≡ None
+no-rule-end (Some e) v o none = cc
+no-rule-end None v o none = refl
 
-pub score-none : {P M E T : Type 0} (game_rules : GameRules P M E T) (e : Option (GameEnd E)) (turn : Side)
-    → score_with game_rules e turn ≡ None → e ≡ None
-score-none game_rules None turn none = refl
-score-none game_rules (Some e) turn none = cc
+pub verdict-alone : {E : Type 0} (e : Option E) (v : Option Verdict) (o : Option OutsideEnd) → end_with e v o ≡ None
+    → v ≡ None
+verdict-alone (Some e) v o none = cc
+verdict-alone None (Some v) o none = cc
+verdict-alone None None o none = refl
 
-end_with-None : {E : Type 0} (e : Option E) → end_with e None ≡ option_map Rule e
+pub outside-alone : {E : Type 0} (e : Option E) (v : Option Verdict) (o : Option OutsideEnd) → end_with e v o ≡ None
+    → o ≡ None
+outside-alone (Some e) v o none = cc
+outside-alone None (Some v) o none = cc
+outside-alone None None (Some o) none = cc
+outside-alone None None None none = refl
+
+end_with-None : {E : Type 0} (e : Option E) → end_with e None None ≡ option_map Rule e
 end_with-None None = refl
 end_with-None (Some e) = refl
 
@@ -99,15 +120,17 @@ module _ {P M E T : Type 0} (game_rules : GameRules P M E T) (game : Game M) (m 
       ≡ game_rules.judge game_rules.start (moves_of game ++ m ∷ [])
   rule_end-played = ap (game_rules.judge game_rules.start) (moves_of-played game m moment)
 
-  pub end-played : result_of game_rules game ≡ None
+  pub end-played : end_of game_rules game ≡ None
       → end_of game_rules (played game m moment) ≡ option_map Rule
       (game_rules.judge game_rules.start (moves_of game ++ m ∷ []))
   end-played running =
-      let none : game.outside ≡ None = outside-alone _ _
-      (score-none game_rules (end_of game_rules game) (turn_of game_rules game) running) in
-      ap (λ e. end_with e game.outside) rule_end-played
-      ∙ ap (end_with (game_rules.judge game_rules.start (moves_of game ++ m ∷ []))) none
-      ∙ end_with-None (game_rules.judge game_rules.start (moves_of game ++ m ∷ []))
+      let judged = game_rules.judge game_rules.start (moves_of game ++ m ∷ []) in
+      let verdict : verdict_of game.rulings ≡ None = verdict-alone (rule_end game_rules game) _ game.outside running in
+      let outside : game.outside ≡ None = outside-alone (rule_end game_rules game) _ _ running in
+      ap (λ e. end_with e (verdict_of game.rulings) game.outside) rule_end-played
+      ∙ ap (λ v. end_with judged v game.outside) verdict
+      ∙ ap (end_with judged None) outside
+      ∙ end_with-None judged
 
   pub made-played : slice_get (moves_of (played game m moment)) (length game.entries) ≡ Some m
   made-played =
@@ -128,16 +151,16 @@ module _ {P M E T : Type 0} (game_rules : GameRules P M E T)
       turn ∙ (ap (λ n. turns n (game_rules.turn game_rules.start)) count ∙ ap (turns (length game.entries)) starts)
 
   pub clocks-played : (m : M) (moment : ℕ) (terms : Terms)
-      → clocks_of (played game m moment) terms ≡ spend terms.increment (turn_of game_rules game) moment
+      → clocks_then (played game m moment) terms ≡ spend terms.increment (turn_of game_rules game) moment
       (clocks_of game terms)
-  clocks-played m moment terms = rw turn-of-game (clocks_of-played game m moment terms)
+  clocks-played m moment terms = rw turn-of-game (clocks_then-played game m moment terms)
 
   -- the answer to a move that was just played shows the game as it stands now
   pub reply-played : (m : M) (moment : ℕ) (terms : Terms)
       → reply_of_move game_rules terms (played game m moment) (length game.entries + 1) m ≡ moved (record {
         ply = length game.entries + 1;
         text = game_rules.write_move (last_position game_rules game) m;
-        left = left_of (turn_of game_rules game) (clocks_of (played game m moment) terms);
+        left = left_of (turn_of game_rules game) (clocks_then (played game m moment) terms);
         position = game_rules.write_position (last_position game_rules (played game m moment));
         end = option_map game_rules.end_name (rule_end game_rules (played game m moment));
       })
@@ -191,7 +214,7 @@ module _ {R P M E T : Type 0} (game_rules : GameRules P M E T) (terms : Terms) (
   repeat-shown ply side text = repeat-at ply side text (move_at game ply)
 
   asked-parts : (ply : ℕ) (o : Option M) → IsAsked game_rules terms game ply o (Some asked)
-      → (asked.left ≡ left_of (side_after (ply - 1)) (clocks_of (game_at game ply) terms))
+      → (asked.left ≡ left_of (side_after (ply - 1)) (clocks_then (game_at game ply) terms))
       × (asked.before ≡ last_position game_rules (game_at game (ply - 1))) × (asked.ply ≡ ply)
   asked-parts ply None shown = absurd shown
   asked-parts ply (Some m) shown = (shown.1, shown.2, shown.3)
@@ -214,10 +237,12 @@ module _ {R P M E T : Type 0} (game_rules : GameRules P M E T) (terms : Terms) (
       moved-same _ _ (sym same) (ap (λ p. game_rules.write_move p asked.made) (sym before)) (sym left)
       (ap game_rules.write_position (asked-after ply shown)) (ap (option_map game_rules.end_name) (sym is))
 
-rule_in-end_with : {E : Type 0} (e : Option E) (o : Option OutsideEnd) → rule_in (end_with e o) ≡ e
-rule_in-end_with (Some e) o = refl
-rule_in-end_with None (Some o) = refl
-rule_in-end_with None None = refl
+pub rule_in-end_with : {E : Type 0} (e : Option E) (v : Option Verdict) (o : Option OutsideEnd)
+    → rule_in (end_with e v o) ≡ e
+rule_in-end_with (Some e) v o = refl
+rule_in-end_with None (Some v) o = refl
+rule_in-end_with None None (Some o) = refl
+rule_in-end_with None None None = refl
 
 module _ {P M E T : Type 0} (game_rules : GameRules P M E T) (terms : Terms) (game : Game M)
     (legal : IsLegalGame game_rules terms game) where
@@ -241,7 +266,9 @@ module _ {R P M E T : Type 0} (game_rules : GameRules P M E T) (terms : Terms) (
   -- at the last ply it is that of the row
   pub end-last : (ply : ℕ) → ply ≡ length game.entries
       → rule_in (end_of game_rules game) ≡ rule_end game_rules (game_at game ply)
-  end-last ply last = rw (last, take-length game.entries) (rule_in-end_with (rule_end game_rules game) game.outside)
+  end-last ply last =
+      rw (last, take-length game.entries)
+      (rule_in-end_with (rule_end game_rules game) (verdict_of game.rulings) game.outside)
 
   -- at an earlier ply there is none
   pub end-before : (ply : ℕ) → IsAsked game_rules terms game ply (move_at game ply) (Some asked)

@@ -18,15 +18,15 @@ use Rattle.club_requests.specs.declared.requests.Who.TheVariants as given_who_is
 use Rattle.club_requests.specs.Outcome.{Reply, MoveReply, member_added, event_added, game_seated, moved, draw_offered}
 use Rattle.club_requests.specs.Outcome.{game_ended, games_swept, challenge_opened, challenge_withdrawn}
 use Rattle.club_requests.specs.Outcome.{challenge_refused}
-use Rattle.club_requests.specs.Outcome.{challenge_accepted, key_given, event_closed, Outcome, accepted, repeated}
-use Rattle.club_requests.specs.Outcome.{refused, map_outcome}
+use Rattle.club_requests.specs.Outcome.{challenge_accepted, key_given, event_closed, ruling_given, Outcome, accepted}
+use Rattle.club_requests.specs.Outcome.{repeated, refused, map_outcome}
 use Rattle.club_core.specs.Members.{Member}
 use Rattle.club_core.specs.Events.{Event}
 use Rattle.club_core.specs.Imports.{Import}
 use Rattle.club_core.specs.Step.{GameCommand, move, offer_draw, accept_draw, resign, claim_time, declare}
 use Rattle.club_core.specs.State.{Command, add_member, add_event, seat, import_record, on_game, sweep, open_challenge}
-use Rattle.club_core.specs.State.{withdraw_challenge, answer_challenge, new_key, close_event, Who, officer, key_holder}
-use Rattle.club_core.specs.State.{Request}
+use Rattle.club_core.specs.State.{withdraw_challenge, answer_challenge, new_key, close_event, rule, Who, officer}
+use Rattle.club_core.specs.State.{key_holder, Request}
 
 -- the reply to a move, with its texts as bytes
 abbrev pub move_reply_of : MoveAnswer → MoveReply
@@ -48,6 +48,7 @@ reply_of (answer.ChallengeRefused number) = challenge_refused number
 reply_of (answer.ChallengeAccepted number game) = challenge_accepted number game
 reply_of (answer.KeyGiven number) = key_given number
 reply_of answer.EventClosed = event_closed
+reply_of (answer.RulingGiven number) = ruling_given number
 
 -- the outcome of a command, without the new state
 abbrev pub outcome_of : given_outcome.Outcome → Outcome (Unit {0})
@@ -110,6 +111,7 @@ command_of (given_is.Withdraw c) = withdraw_challenge c.number
 command_of (given_is.Answer c) = answer_challenge (string_bytes c.challenger) c.number c.accept
 command_of (given_is.NewKey c) = new_key (string_bytes c.name) c.number (string_bytes c.key)
 command_of (given_is.CloseEvent c) = close_event (string_bytes c.event)
+command_of (given_is.Rule c) = rule c.game c.number c.ruling
 
 -- a request, with its texts as bytes
 abbrev pub request_of : given_request.Request → Request

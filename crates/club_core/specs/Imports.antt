@@ -19,7 +19,7 @@ use Rattle.club_requests.specs.Outcome.{unless_repeat}
 use Rattle.club_core.specs.declared.seats.KeyedGame.{KeyedGame}
 use Rattle.club_core.specs.declared.seats.Pairing.{Pairing}
 use Rattle.club_core.specs.Seats.{are_distinct, same_seats}
-use Rattle.club_core.specs.Game.{Game, moves_of, result_of}
+use Rattle.club_core.specs.Game.{Game, moves_of, result_beneath}
 
 -- an import: the key of the new game, the names of its event and its players, and one part of a text in a format
 pub record Import : Type 0 where
@@ -61,9 +61,9 @@ module _ {P M E T : Type 0} (rules : GameRules P M E T) where
   same_moves (m ∷ ms) [] = false
   same_moves (m ∷ ms) (n ∷ ns) = rules.same m n && same_moves ms ns
 
-  -- the game has the record's moves and the record's score
+  -- the game has the record's moves and, without the arbiter's verdict, the record's score
   abbrev pub is_record_of : Game M → Recorded M → Bool
-  is_record_of game r = has_score (result_of rules game) r.score && same_moves (moves_of game) r.moves
+  is_record_of game r = has_score (result_beneath rules game) r.score && same_moves (moves_of game) r.moves
 
   -- the reading is a record of this game, if both exist
   abbrev pub reads_record_of : Option (Game M) → Reading M → Bool
@@ -84,6 +84,7 @@ module _ {P M E T : Type 0} (rules : GameRules P M E T) where
         entries = map (λ m. record { made = m; moment = moment }) r.moves;
         offer = None;
         outside = recorded_end (rules.judge rules.start r.moves) r.score;
+        rulings = [];
       }
 
 -- If the event has no declarations, a record that ends with a declaration is refused.

@@ -15,7 +15,7 @@ use Rattle.club_core.specs.Events.{Event}
 use Rattle.club_core.specs.Challenges.{key_of_challenge, pairing_for}
 use Rattle.club_core.specs.Game.{Game, clocks_of, left_of, turn_of}
 use Rattle.club_core.specs.Legal.{IsLegalGame}
-use Rattle.club_core.specs.State.{AnyGame, draughts, shogi, State, place, key_of, pairing_of}
+use Rattle.club_core.specs.State.{AnyGame, draughts, shogi, State, place, key_of, pairing_of, rulings_of}
 
 -- the predicate holds for each element
 abbrev pub Each : {A : Type 0} → (A → Type 0) → List A → Type 0
@@ -64,6 +64,7 @@ pub record IsGameOf {DM SM P M E T : Type 0} (rules : GameRules P M E T) (kind :
   -- no timestamp is later than that of the last accepted request
   pub start : game.start ≤ s.last
   pub entries : Each (λ e. e.moment ≤ s.last) game.entries
+  pub rulings : Each (λ r. r.moment ≤ s.last) game.rulings
   -- a side that lost on time had exceeded its limit when the last request was accepted
   pub lost_by_time : game.outside ≡ Some Time
       → (clocks_of game event.terms).since + left_of (turn_of rules game) (clocks_of game event.terms) < s.last
@@ -89,6 +90,7 @@ pub record IsLegalChallenge {DM SM : Type 0} (s : State DM SM) (c : Challenge) :
 pub record IsWithoutArbiter {DM SM : Type 0} (s : State DM SM) : Type 0 where
   pub keys : Each (λ m. m.later ≡ []) s.members
   pub events : Each (λ e. e.closed ≡ None) s.events
+  pub games : Each (λ g. rulings_of g ≡ []) s.games
 
 -- the invariant of the club's state
 pub record IsLegalState {DP DM DE DT SP SM SE ST : Type 0} (rules : ClubRules DP DM DE DT SP SM SE ST)

@@ -5,6 +5,7 @@ pub mod Closings
 pub mod Seats
 pub mod Keys
 pub mod Challenges
+pub mod Rulings
 pub mod Game
 pub mod Legal
 pub mod Imports

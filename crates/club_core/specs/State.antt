@@ -8,7 +8,8 @@ use Rattle.club_core.specs.ClubRules.{ClubRules}
 use Rattle.club_core.specs.declared.challenges.Challenge.{Challenge}
 use Rattle.club_requests.specs.declared.requests.Caller.{Caller}
 use Rattle.club_requests.specs.declared.requests.Caller.TheVariants.{Officer, Member}
-use Rattle.club_requests.specs.declared.refusals.Refusal.TheVariants.{UnknownKey}
+use Rattle.club_requests.specs.declared.refusals.Refusal.TheVariants.{UnknownGame, UnknownKey}
+use Rattle.club_requests.specs.declared.rulings.Ruling.{Ruling}
 use Rattle.club_requests.specs.Outcome.{Outcome, games_swept, accepted, repeated, refused, map_outcome, by_officer}
 use Rattle.club_requests.specs.Outcome.{by_member}
 use Rattle.club_core.specs.Members as members
@@ -21,11 +22,12 @@ use Rattle.club_core.specs.declared.seats.Pairing.{Pairing}
 use Rattle.club_core.specs.Seats.{has_member_name, seat_step}
 use Rattle.club_core.specs.Challenges.{challenge_under, challenge_by, put_challenge, pairing_for, opening_step}
 use Rattle.club_core.specs.Challenges.{withdrawal_step, answer_step}
+use Rattle.club_core.specs.Rulings.{GivenRuling}
 use Rattle.club_core.specs.Game.{Game}
 use Rattle.club_rules.specs.GameRules.{GameRules}
 use Rattle.club_rules.specs.Records.{GameRecords}
 use Rattle.club_core.specs.Imports.{Import, Imported, imported, import_found}
-use Rattle.club_core.specs.Step.{GameCommand, no_game_refusal, game_step, is_late, swept}
+use Rattle.club_core.specs.Step.{GameCommand, no_game_refusal, game_step, ruling_step, is_late, swept}
 
 -- a game of one of the two kinds
 pub data AnyGame (DM SM : Type 0) : Type 0 where
@@ -34,7 +36,7 @@ pub data AnyGame (DM SM : Type 0) : Type 0 where
 
 -- the ids of members, events and games are their indices, from 1
 pub record State (DM SM : Type 0) : Type 0 where
-  -- whether the club can record what only an arbiter does: later keys of members and closed events
+  -- whether the club can record what only an arbiter does: later keys of members, closed events and rulings on games
   pub has_arbiter : Bool
   -- timestamp of the last accepted request
   pub last : ℕ
@@ -62,11 +64,13 @@ pub data Command : Type 0 where
   answer_challenge : (challenger : List ℕ) → (number : ℕ) → (accept : Bool) → Command
   new_key : (name : List ℕ) → (number : ℕ) → (key : List ℕ) → Command
   close_event : (event : List ℕ) → Command
+  rule : (id number : ℕ) → Ruling → Command
 
 -- a command of which only a club with an arbiter can record what it does
 abbrev pub needs_arbiter : Command → Bool
 needs_arbiter (new_key name number key) = true
 needs_arbiter (close_event event) = true
+needs_arbiter (rule id number ruling) = true
 needs_arbiter _ = false
 
 -- caller of a command: the officer, or the holder of a member's key
@@ -116,6 +120,11 @@ module _ {DM SM : Type 0} where
   pairing_of (draughts g) = record { event = g.event; first = g.first; second = g.second }
   pairing_of (shogi g) = record { event = g.event; first = g.first; second = g.second }
 
+  -- the rulings on a game
+  abbrev pub rulings_of : AnyGame DM SM → List GivenRuling
+  rulings_of (draughts g) = g.rulings
+  rulings_of (shogi g) = g.rulings
+
   -- the game has this key
   abbrev pub has_key : List ℕ → AnyGame DM SM → Bool
   has_key key g = is_key key (key_of g)
@@ -162,6 +171,7 @@ seated key pairing start =
       entries = [];
       offer = None;
       outside = None;
+      rulings = [];
     }
 
 -- a new game of this kind without moves
@@ -260,6 +270,14 @@ module _ {DP DM DE DT SP SM SE ST : Type 0} (rules : ClubRules DP DM DE DT SP SM
       map_outcome (λ new. with_game s moment id (shogi new))
       (game_step rules.shogi (terms_at (place s.events g.event)) g moment who command)
 
+  -- a ruling on the game with this id, which was looked up
+  abbrev pub step_ruling : State DM SM → ℕ → ℕ → ℕ → Ruling → Option (AnyGame DM SM) → Outcome (State DM SM)
+  step_ruling s moment id number ruling None = refused UnknownGame
+  step_ruling s moment id number ruling (Some (draughts g)) =
+      map_outcome (λ new. with_game s moment id (draughts new)) (ruling_step rules.draughts g number ruling moment)
+  step_ruling s moment id number ruling (Some (shogi g)) =
+      map_outcome (λ new. with_game s moment id (shogi new)) (ruling_step rules.shogi g number ruling moment)
+
   -- import into an event of this kind; the names and the game under the key are looked up
   abbrev pub import_as : State DM SM → ℕ → Import → GameKind → Outcome (State DM SM)
   import_as s moment given Draughts =
@@ -320,6 +338,8 @@ module _ {DP DM DE DT SP SM SE ST : Type 0} (rules : ClubRules DP DM DE DT SP SM
       by_officer who (map_outcome (with_members s moment) (key_step s.members name number key))
   step_command s moment who (close_event event) =
       by_officer who (map_outcome (with_events s moment) (close_step s.events event moment))
+  step_command s moment who (rule id number ruling) =
+      by_officer who (step_ruling s moment id number ruling (place s.games id))
 
   -- a command of a caller that was looked up by key; refused if there is none
   abbrev pub step_by : State DM SM → ℕ → Option Caller → Command → Outcome (State DM SM)

@@ -18,15 +18,20 @@ use Rattle.club_requests.specs.declared.refusals.Refusal.TheVariants.{NotAllowed
 use Rattle.club_requests.specs.declared.refusals.Refusal.TheVariants.{NotInThisGame}
 use Rattle.club_requests.specs.declared.refusals.Refusal.TheVariants.{GameOver, WrongPly, Conflict, NotYourTurn}
 use Rattle.club_requests.specs.declared.refusals.Refusal.TheVariants.{OutOfTime}
-use Rattle.club_requests.specs.declared.refusals.Refusal.TheVariants.{TimeLeft, NoOffer, BadValue, NotDeclarable, Play}
-use Rattle.club_requests.specs.Limits.{most_text_bytes}
+use Rattle.club_requests.specs.declared.refusals.Refusal.TheVariants.{TimeLeft, NoOffer, BadValue, Full, NotDeclarable}
+use Rattle.club_requests.specs.declared.refusals.Refusal.TheVariants.{Play}
+use Rattle.club_requests.specs.declared.rulings.Ruling.{Ruling}
+use Rattle.club_requests.specs.Limits.{most_text_bytes, most_rulings}
+use Rattle.club_requests.specs.Rulings.{has_grant_time, is_grant}
 use Rattle.club_core.specs.Events.{Terms}
-use Rattle.club_requests.specs.Outcome.{Reply, moved, draw_offered, game_ended, Outcome, accepted, refused}
+use Rattle.club_requests.specs.Outcome.{Reply, moved, draw_offered, game_ended, ruling_given, Outcome, accepted}
+use Rattle.club_requests.specs.Outcome.{refused}
 use Rattle.club_requests.specs.Outcome.{first_refusal}
 use Rattle.club_requests.specs.Outcome.{unless, unless_repeat}
 use Rattle.club_requests.specs.OutsideEnd.{outside_score}
-use Rattle.club_core.specs.Game.{Game, left_of, side_after, moves_of, clocks_of, last_position, rule_end}
-use Rattle.club_core.specs.Game.{turn_of, result_of, game_at}
+use Rattle.club_core.specs.Rulings.{is_given, ruling_under}
+use Rattle.club_core.specs.Game.{Game, left_of, side_after, moves_of, clocks_of, clocks_then, last_position, rule_end}
+use Rattle.club_core.specs.Game.{turn_of, end_of, game_at}
 
 -- a command on a game, with its text as bytes
 pub data GameCommand : Type 0 where
@@ -121,14 +126,14 @@ module _ {P M E T : Type 0} (rules : GameRules P M E T) where
   reads_as (Err refusal) m = false
 
 module _ {P M E T : Type 0} (rules : GameRules P M E T) (terms : Terms) (game : Game M) (ply : ℕ) where
-  -- the reply to the move at this ply, a function of the entries up to it
+  -- the reply to the move at this ply, a function of the entries up to it and of the grants before it
   abbrev pub reply_of_move : M → Reply
   reply_of_move m =
       moved
       (record {
         ply = ply;
         text = rules.write_move (last_position rules (game_at game (ply - 1))) m;
-        left = left_of (side_after (ply - 1)) (clocks_of (game_at game ply) terms);
+        left = left_of (side_after (ply - 1)) (clocks_then (game_at game ply) terms);
         position = rules.write_position (last_position rules (game_at game ply));
         end = option_map rules.end_name (rule_end rules (game_at game ply));
       })
@@ -147,7 +152,7 @@ module _ {P M E T : Type 0} (rules : GameRules P M E T) (terms : Terms) (game : 
 module _ {P M E T : Type 0} (rules : GameRules P M E T) (game : Game M) where
   -- the game has ended
   abbrev pub is_over : Bool
-  is_over = is_some (result_of rules game)
+  is_over = is_some (end_of rules game)
 
   -- this side is to move
   abbrev pub is_turn : Side → Bool
@@ -347,3 +352,43 @@ module _ {P M E T : Type 0} (rules : GameRules P M E T) (terms : Terms) (game : 
       if may_give who command
       then by_side (caller_side game.first game.second who (asked_ply command)) command
       else refused NotAllowed
+
+-- the game with one more ruling
+abbrev pub ruled : {M : Type 0} → Game M → Ruling → ℕ → Game M
+ruled game ruling moment =
+    record game {
+      rulings = game.rulings ++ record { ruling = ruling; moment = moment; plies = length game.entries } ∷ [];
+    }
+
+-- the number is that of a ruling on the game, or the next one
+abbrev pub is_ruling_number : {M : Type 0} → Game M → ℕ → Bool
+is_ruling_number game number = nat_le 1 number && nat_le number (length game.rulings + 1)
+
+module _ {P M E T : Type 0} (rules : GameRules P M E T) (game : Game M) (number : ℕ) (ruling : Ruling) where
+  -- the reply if this ruling was given under this number
+  abbrev pub repeat_of_ruling : Option Reply
+  repeat_of_ruling = if is_given ruling (ruling_under game.rulings number) then Some (ruling_given number) else None
+
+  -- a rule of the game ended it, or time is granted after its end
+  abbrev pub is_too_late : Bool
+  is_too_late = is_some (rule_end rules game) || is_grant ruling && is_over rules game
+
+  -- the refusals of a ruling with their tests, in the order in which they apply
+  abbrev pub ruling_tests : List (Bool × Refusal)
+  ruling_tests =
+      (is_too_late, GameOver)
+      ∷ (is_some (ruling_under game.rulings number), Conflict)
+      ∷ (not (is_ruling_number game number && has_grant_time ruling), BadValue)
+      ∷ (nat_le most_rulings (length game.rulings), Full)
+      ∷ []
+
+  -- the first refusal of a ruling that applies, if any
+  abbrev pub ruling_refusal : Option Refusal
+  ruling_refusal = first_refusal ruling_tests
+
+  -- the arbiter gives a ruling on the game at this timestamp
+  abbrev pub ruling_step : ℕ → Outcome (Game M)
+  ruling_step moment =
+      unless_repeat repeat_of_ruling
+      (unless ruling_refusal
+      (accepted (ruled game ruling moment) (ruling_given number)))

@@ -7,9 +7,9 @@ use Rattle.club_rules.specs.Line.{line_track}
 use Rattle.club_core.specs.declared.rows.GameRow.{GameRow}
 use Rattle.club_core.specs.declared.rows.GameView.{GameView}
 use Rattle.club_core.specs.declared.rows.Asked.{Asked}
-use Rattle.club_requests.specs.Limits.{most_plies}
+use Rattle.club_requests.specs.Limits.{most_plies, longest_grant}
 use Rattle.club_core.specs.Events.{Terms}
-use Rattle.club_core.specs.Game.{Game, Clocks, clocks_of, moves_of, last_position, end_of, result_of}
+use Rattle.club_core.specs.Game.{Game, Clocks, clocks_of, clocks_then, moves_of, last_position, end_of, result_of}
 use Rattle.club_core.specs.Game.{left_of, side_after, game_at}
 use Rattle.club_core.specs.Step.{move_at}
 
@@ -33,6 +33,7 @@ pub record IsRowOf {P M E T : Type 0} (rules : GameRules P M E T) (terms : Terms
   pub clocks : clocks_in row ≡ clocks_of game terms
   pub track : row.track ≡ rules.track_numbers (track_of_game rules game)
   pub offer : row.offer ≡ game.offer
+  pub outside : row.outside ≡ game.outside
   pub end : row.end ≡ end_of rules game
   pub result : row.result ≡ result_of rules game
   pub position : string_bytes row.position ≡ rules.write_position (last_position rules game)
@@ -45,7 +46,7 @@ IsAsked rules terms game ply (Some m) None = ⊥
 IsAsked rules terms game ply None (Some asked) = ⊥
 IsAsked rules terms game ply (Some m) (Some asked) =
     (asked.made ≡ m)
-    × (asked.left ≡ left_of (side_after (ply - 1)) (clocks_of (game_at game ply) terms))
+    × (asked.left ≡ left_of (side_after (ply - 1)) (clocks_then (game_at game ply) terms))
     × (asked.before ≡ last_position rules (game_at game (ply - 1)))
     × (asked.ply ≡ ply)
 
@@ -76,3 +77,5 @@ pub record IsSound {R P M E T : Type 0} (rules : GameRules P M E T) (view : Game
   pub plies : view.row.plies ≤ most_plies
   pub room_first : view.row.left_first + view.increment < 2 ^ 64
   pub room_second : view.row.left_second + view.increment < 2 ^ 64
+  pub grant_first : view.row.left_first + longest_grant < 2 ^ 64
+  pub grant_second : view.row.left_second + longest_grant < 2 ^ 64

@@ -24,7 +24,7 @@ fn repeat_of_declare<R: Rules>(view: &GameView<R>, side: Side, ply: u64) -> Opti
     ensures { (game : Game R.Move) → Shows R.rules game view.now → IsLegalGame R.rules (terms_of view.now) game →
         option_map reply_of result ≡ repeat_of_declare R.rules (terms_of view.now) game side ply }
 {
-    if is_ended_by(&view.row.end, OutsideEnd::Declared)
+    if is_ended_by(view.row.outside, OutsideEnd::Declared)
         && is_side(side, R::turn(&view.position))
         && is_next_ply(view, ply)
     {
@@ -37,9 +37,9 @@ fn repeat_of_declare<R: Rules>(view: &GameView<R>, side: Side, ply: u64) -> Opti
 fn refusal_of_declare<R: Rules>(view: &GameView<R>, side: Side, ply: u64) -> Option<Refusal>
     ensures value { (game : Game R.Move) → Shows R.rules game view.now →
         result ≡ declare_refusal R.rules (terms_of view.now) game side ply }
-    ensures running { IfNone result (view.now.row.result ≡ None) }
+    ensures running { IfNone result (view.now.row.end ≡ None) }
 {
-    if view.row.result.is_some() {
+    if view.row.end.is_some() {
         return Some(Refusal::GameOver);
     }
     if !is_next_ply(view, ply) {

@@ -67,10 +67,10 @@ fn repeat_of_offer(offer: Option<Offer>, side: Side, ply: u64) -> Option<Answer>
 /// The refusal of a draw offer, if any.
 fn refusal_of_offer<R: Rules>(view: &GameView<R>, side: Side, ply: u64) -> Option<Refusal>
     ensures value { (game : Game R.Move) → Shows R.rules game view.now → result ≡ offer_refusal R.rules game side ply }
-    ensures running { IfNone result (view.now.row.result ≡ None) }
+    ensures running { IfNone result (view.now.row.end ≡ None) }
     ensures next { IfNone result (ply ≡ view.now.row.plies + 1) }
 {
-    if view.row.result.is_some() {
+    if view.row.end.is_some() {
         return Some(Refusal::GameOver);
     }
     if !is_next_ply(view, ply) {
@@ -131,7 +131,7 @@ fn repeat_of_accept<R: Rules>(view: &GameView<R>, side: Side, ply: u64) -> Optio
     ensures { (game : Game R.Move) → Shows R.rules game view.now → IsLegalGame R.rules (terms_of view.now) game →
         option_map reply_of result ≡ repeat_of_accept R.rules game side ply }
 {
-    if is_ended_by(&view.row.end, OutsideEnd::Agreed)
+    if is_ended_by(view.row.outside, OutsideEnd::Agreed)
         && has_offer(view.row.offer, side.other(), ply)
     {
         return Some(answer_of_end(view, OutsideEnd::Agreed));
@@ -142,9 +142,9 @@ fn repeat_of_accept<R: Rules>(view: &GameView<R>, side: Side, ply: u64) -> Optio
 /// The refusal of an acceptance, if any.
 fn refusal_of_accept<R: Rules>(view: &GameView<R>, side: Side, ply: u64) -> Option<Refusal>
     ensures value { (game : Game R.Move) → Shows R.rules game view.now → result ≡ accept_refusal R.rules game side ply }
-    ensures running { IfNone result (view.now.row.result ≡ None) }
+    ensures running { IfNone result (view.now.row.end ≡ None) }
 {
-    if view.row.result.is_some() {
+    if view.row.end.is_some() {
         return Some(Refusal::GameOver);
     }
     if !is_next_ply(view, ply) {

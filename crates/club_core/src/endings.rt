@@ -35,12 +35,13 @@ pub fn answer_of_end<R: Rules>(view: &GameView<R>, end: OutsideEnd) -> Answer
 ///
 /// `Memory` if out of memory.
 pub fn accept_end<R: Rules>(view: &GameView<R>, end: OutsideEnd) -> Result<Decision<R>, Memory>
-    requires { view.now.row.result ≡ None }
+    requires { view.now.row.end ≡ None }
     ensures { IfOk result (λ d. (game : Game R.Move) → Shows R.rules game view.now →
         IsDecision R.rules (terms_of view.now) game (ends R.rules game end) d) }
 {
     let answer = answer_of_end(view, end);
     let mut row = copy_row(&view.row)?;
+    row.outside = Some(end);
     row.end = Some(GameEnd::Outside(end));
     row.result = Some(end.score(R::turn(&view.position)));
     Ok(Decision::Accepted {
@@ -55,7 +56,9 @@ fn repeat_of_resign<R: Rules>(view: &GameView<R>, side: Side) -> Option<Answer>
     ensures { (game : Game R.Move) → Shows R.rules game view.now → IsLegalGame R.rules (terms_of view.now) game →
         option_map reply_of result ≡ repeat_of_resign R.rules game side }
 {
-    if is_ended_by(&view.row.end, OutsideEnd::Resigned) && is_side(side, R::turn(&view.position)) {
+    if is_ended_by(view.row.outside, OutsideEnd::Resigned)
+        && is_side(side, R::turn(&view.position))
+    {
         return Some(answer_of_end(view, OutsideEnd::Resigned));
     }
     None
@@ -64,9 +67,9 @@ fn repeat_of_resign<R: Rules>(view: &GameView<R>, side: Side) -> Option<Answer>
 /// The refusal of a resignation, if any.
 fn refusal_of_resign<R: Rules>(view: &GameView<R>, side: Side) -> Option<Refusal>
     ensures value { (game : Game R.Move) → Shows R.rules game view.now → result ≡ resign_refusal R.rules game side }
-    ensures running { IfNone result (view.now.row.result ≡ None) }
+    ensures running { IfNone result (view.now.row.end ≡ None) }
 {
-    if view.row.result.is_some() {
+    if view.row.end.is_some() {
         return Some(Refusal::GameOver);
     }
     if !is_side(side, R::turn(&view.position)) {
@@ -102,7 +105,7 @@ fn repeat_of_claim<R: Rules>(view: &GameView<R>, side: Side) -> Option<Answer>
     ensures { (game : Game R.Move) → Shows R.rules game view.now → IsLegalGame R.rules (terms_of view.now) game →
         option_map reply_of result ≡ repeat_of_claim R.rules game side }
 {
-    if is_ended_by(&view.row.end, OutsideEnd::Time) && !is_side(side, R::turn(&view.position)) {
+    if is_ended_by(view.row.outside, OutsideEnd::Time) && !is_side(side, R::turn(&view.position)) {
         return Some(answer_of_end(view, OutsideEnd::Time));
     }
     None
@@ -113,9 +116,9 @@ fn refusal_of_claim<R: Rules>(view: &GameView<R>, side: Side, moment: Moment) ->
     requires { view.now.row.since ≤ moment }
     ensures value { (game : Game R.Move) → Shows R.rules game view.now →
         result ≡ claim_refusal R.rules (terms_of view.now) game moment side }
-    ensures running { IfNone result (view.now.row.result ≡ None) }
+    ensures running { IfNone result (view.now.row.end ≡ None) }
 {
-    if view.row.result.is_some() {
+    if view.row.end.is_some() {
         return Some(Refusal::GameOver);
     }
     let turn = R::turn(&view.position);

@@ -4,7 +4,7 @@ ghost use Rattle.std.specs.Prelude.{◌≡◌};
 ghost use Rattle.std.specs.Option.{option_map};
 ghost use Rattle.club_core.specs.declared.rows.GameEnd.TheVariants.{Rule};
 ghost use Rattle.club_core.specs.Game.{score_with};
-ghost use Rattle.club_core.specs.internal.View.{rule_in, outside_in};
+ghost use Rattle.club_core.specs.internal.View.{rule_in};
 ghost use Rattle.club_core.specs.Step.{is_ended_by};
 
 use crate::rows::GameEnd;
@@ -23,12 +23,12 @@ pub fn rule_in<E: Copy>(end: &Option<GameEnd<E>>) -> Option<E>
 }
 
 /// Whether the game ended for this outside reason.
-pub fn is_ended_by<E>(end: &Option<GameEnd<E>>, way: OutsideEnd) -> bool
-    ensures { result ≡ is_ended_by way (outside_in end.now) }
+pub fn is_ended_by(outside: Option<OutsideEnd>, way: OutsideEnd) -> bool
+    ensures { result ≡ is_ended_by way outside }
 {
-    match end {
-        Some(GameEnd::Outside(end)) => *end == way,
-        _ => false,
+    match outside {
+        Some(end) => end == way,
+        None => false,
     }
 }
 

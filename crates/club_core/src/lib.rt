@@ -5,6 +5,8 @@
 //! - `decide`, `settle`, `conclude`: the decision on a command in a game is the step of the state machine, for every
 //!   game that the view shows.
 //! - `add_member`, `add_event`, `seat`: adding a member or an event and seating a game are steps of the state machine.
+//! - `rule`, `settle`, `conclude`: the decision on a ruling of the arbiter is the step of the state machine, for every
+//!   game that the view shows.
 //! - `new_key`, `close_event`: giving a member another key and closing an event to challenges are steps too.
 //! - `open_challenge`, `withdraw`, `answer_challenge`: opening, withdrawing and answering a challenge are steps too,
 //!   with the challenge as it will be stored.
@@ -25,6 +27,7 @@ pub mod members;
 mod moves;
 mod players;
 pub mod rows;
+pub mod rulings;
 pub mod seats;
 pub mod settling;
 
@@ -37,7 +40,8 @@ pub use events::{Event, add_event, close_event, event_declares};
 pub use keys::new_key;
 pub use members::{Member, add_member, identify};
 pub use moves::read_legal;
-pub use rows::{Asked, GameEnd, GameRow, GameView, Made, Offer};
+pub use rows::{Asked, GameEnd, GameRow, GameView, Made, Offer, StoredRulings};
+pub use rulings::{GivenRuling, rule};
 pub use seats::{
     KeyedGame, NamedPairing, Pairing, SeatDecision, StoredGames, keyless_row, seat, seated_row,
 };

@@ -126,12 +126,12 @@ fn clock_after<R: Rules>(
         move_refusal R.rules (terms_of view.now) game moment side ply text.now ≡ Some refusal) }
     ensures allowed { IfOk result (λ clock. (game : Game R.Move) → Shows R.rules game view.now →
         move_refusal R.rules (terms_of view.now) game moment side ply text.now ≡ None) }
-    ensures running { IfOk result (λ clock. view.now.row.result ≡ None) }
+    ensures running { IfOk result (λ clock. view.now.row.end ≡ None) }
     ensures to_move { IfOk result (λ clock. side ≡ R.rules.turn view.now.position) }
     ensures left { IfOk result (λ clock. clock.left ≡
         left_after (left_of side (clocks_in view.now.row)) view.now.increment (moment - view.now.row.since)) }
 {
-    if view.row.result.is_some() {
+    if view.row.end.is_some() {
         return Err(Refusal::GameOver);
     }
     let plies = u64::from(view.row.plies);
@@ -208,6 +208,7 @@ fn moved_row<E: Copy + Drop>(
         left_second,
         track,
         offer: None,
+        outside: row.outside,
         end: None,
         result: None,
         position,

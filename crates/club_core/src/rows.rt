@@ -4,14 +4,15 @@ ghost use Rattle.std.specs.Prelude.{◌≡◌, IfOk, string_bytes};
 ghost use Rattle.std.specs.Option.{option_map};
 
 use clocks::Moment;
-use club_requests::OutsideEnd;
+use club_requests::{OutsideEnd, Ruling, Verdict};
 use club_rules::{Memory, Rules};
 use squares::{Score, Side};
 
-/// The reason why a game is over: a rule of the game, or a reason outside its rules.
+/// The reason why a game is over: a rule of the game, the arbiter's verdict, or a reason outside its rules.
 #[derive(Clone, Copy, Drop)]
 pub enum GameEnd<E> {
     Rule(E),
+    Verdict(Verdict),
     Outside(OutsideEnd),
 }
 
@@ -38,8 +39,11 @@ pub struct GameRow<E> {
     /// The two numbers by which the track (the summary of the moves for the drawing rules) is stored.
     pub track: (u32, u32),
     pub offer: Option<Offer>,
-    pub end: Option<GameEnd<E>>,
+    /// The end for a reason outside the rules, also if the arbiter's verdict has replaced it.
+    pub outside: Option<OutsideEnd>,
     /// `None` while the game is running.
+    pub end: Option<GameEnd<E>>,
+    /// `None` while the game is running, and for a void game.
     pub result: Option<Score>,
     pub position: String,
 }
@@ -66,6 +70,15 @@ pub struct GameView<R: Rules> {
     pub track: R::Track,
     /// `None` if no move was played at that ply.
     pub asked: Option<Asked<R>>,
+}
+
+/// What is stored of the arbiter's rulings on a game, as a ruling under a number needs it.
+#[derive(Clone, Copy, Debug, PartialEq, Eq)]
+pub struct StoredRulings {
+    /// The number of rulings.
+    pub count: u32,
+    /// The ruling under the number; `None` if there is none.
+    pub asked: Option<Ruling>,
 }
 
 /// A newly played move with the position after it.
@@ -112,6 +125,7 @@ pub fn copy_row<E: Copy + Drop>(row: &GameRow<E>) -> Result<GameRow<E>, Memory>
         left_second: row.left_second,
         track: row.track,
         offer: row.offer,
+        outside: row.outside,
         end: row.end,
         result: row.result,
         position: row.position.clone()?,

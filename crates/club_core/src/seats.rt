@@ -260,6 +260,7 @@ fn started_row<R: Rules>(
         left_second: budget,
         track: R::track_numbers(&track),
         offer: None,
+        outside: None,
         end: None,
         result: None,
         position: text,

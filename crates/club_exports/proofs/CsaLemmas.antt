@@ -6,8 +6,9 @@ use Rattle.squares.specs.declared.shogi.moves.SMove.{SMove}
 use Rattle.shogi_moves.proofs.Proved.{can_declare-is}
 use Rattle.shogi_repetition.specs.declared.ends.SEnd.{SEnd}
 use Rattle.club_requests.specs.declared.outside_end.OutsideEnd.TheVariants.{Declared}
+use Rattle.club_requests.specs.declared.rulings.Verdict.TheVariants.{Awarded, Voided}
 use Rattle.club_core.specs.declared.rows.GameEnd.{GameEnd}
-use Rattle.club_core.specs.declared.rows.GameEnd.TheVariants.{Outside}
+use Rattle.club_core.specs.declared.rows.GameEnd.TheVariants.{Outside, Verdict}
 use Rattle.club_games.specs.Shogi.{shogi}
 use Rattle.csa.specs.declared.head.CsaEnd.TheVariants as csa_end
 use Rattle.csa.specs.declared.head.CsaHead.{CsaHead}
@@ -45,6 +46,8 @@ module _ {title : Title SEnd} {head : CsaHead} (is : IsCsaHead title head) where
 -- an end that is told as a declaration is one
 declared-told : (end : Option (GameEnd SEnd)) → end_told end ≡ Some csa_end.Declared → end ≡ Some (Outside Declared)
 declared-told (Some (Outside Declared)) is = refl
+declared-told (Some (Verdict (Awarded score))) is = cc
+declared-told (Some (Verdict Voided)) is = cc
 declared-told _ is = cc
 
 module _ {title : Title SEnd} {plies : List (SMove × ℕ)} {before held : Option (List ℕ)} {game : GameWriter}

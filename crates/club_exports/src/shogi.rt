@@ -2,16 +2,15 @@
 //! First is Black (sente).
 
 ghost use Rattle.std.specs.Prelude.{◌≡◌};
-ghost use Rattle.club_core.specs.declared.rows.GameEnd.TheVariants as by;
 ghost use Rattle.club_exports.specs.internal.Title.{title_of};
-ghost use Rattle.club_exports.specs.CsaRecords.{end_told, told_end};
+ghost use Rattle.club_exports.specs.CsaRecords.{end_told, outside_told, verdict_told};
 ghost use Rattle.club_exports.specs.internal.CsaRecords.{IsCsaHead};
 
 use crate::exports::WriteRecord;
 use crate::heading::RecordHeader;
 use club_core::GameEnd;
 use club_games::Shogi;
-use club_requests::OutsideEnd;
+use club_requests::{OutsideEnd, Verdict};
 use csa::laws::written_moves_begin_games;
 use csa::{CsaEnd, CsaHead, GameWriter};
 use record_writer::WriteFault;
@@ -22,7 +21,7 @@ use std::io::Write;
 
 // The CSA end of a game that ended for an outside reason.
 fn outside_told(end: OutsideEnd) -> CsaEnd
-    ensures { result ≡ told_end (by.Outside end) }
+    ensures { result ≡ outside_told end }
 {
     match end {
         OutsideEnd::Resigned => CsaEnd::Resigned,
@@ -33,12 +32,23 @@ fn outside_told(end: OutsideEnd) -> CsaEnd
     }
 }
 
+// The CSA end of a game that the arbiter ended; a void game has none.
+fn verdict_told(verdict: Verdict) -> Option<CsaEnd>
+    ensures { result ≡ verdict_told verdict }
+{
+    match verdict {
+        Verdict::Awarded(score) => Some(CsaEnd::Recorded(score)),
+        Verdict::Voided => None,
+    }
+}
+
 // The CSA end of a game, if it ended.
 fn end_told(end: Option<GameEnd<SEnd>>) -> Option<CsaEnd>
     ensures { result ≡ end_told end }
 {
     match end {
         Some(GameEnd::Rule(end)) => Some(CsaEnd::Rule(end)),
+        Some(GameEnd::Verdict(verdict)) => verdict_told(verdict),
         Some(GameEnd::Outside(end)) => Some(outside_told(end)),
         None => None,
     }

@@ -22,13 +22,14 @@ count moment (suc n) = ap suc (count moment n)
 
 -- the clocks after one move more
 pub spend-more : (increment moment n : ℕ) (c : Clocks)
-    → spend increment (turns n First) moment (spend_all increment First (at_moment moment n) c)
-    ≡ spend_all increment First (at_moment moment (n + 1)) c
+    → spend increment (turns n First) moment (spend_all increment [] 0 First (at_moment moment n) c)
+    ≡ spend_all increment [] 0 First (at_moment moment (n + 1)) c
 spend-more increment moment n c =
-    ap (λ k. spend increment (turns k First) moment (spend_all increment First (at_moment moment n) c))
-    (sym (count moment n))
-    ∙ sym (spend_all-append increment First (at_moment moment n) moment c)
-    ∙ ap (λ l. spend_all increment First l c) (sym (one-more moment n))
+    let counted = count moment n in
+    ap (λ k. spend increment (turns k First) moment (spend_all increment [] 0 First (at_moment moment n) c))
+    (sym counted)
+    ∙ sym (spend_all-append increment [] 0 n First (at_moment moment n) moment c (omega (arith, counted)))
+    ∙ ap (λ l. spend_all increment [] 0 First l c) (sym (one-more moment n))
 
 pub turns-more : (n : ℕ) (s : Side) → turns (n + 1) s ≡ other (turns n s)
 turns-more n s = ap (λ k. turns k s) (add-one n) ∙ turns-other n s

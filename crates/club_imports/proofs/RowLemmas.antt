@@ -1,5 +1,5 @@
 -- What follows from the game of a record, by the record's moves.
-use Rattle.std.proofs.Common.{◌≡◌, ℕ, List, length, Option, Some, sym, ap, ◌∙◌}
+use Rattle.std.proofs.Common.{◌≡◌, ℕ, List, [], length, Option, Some, None, sym, ap, ◌∙◌}
 use Rattle.std.proofs.lemmas.List.{length-map}
 use Rattle.squares.specs.declared.sides.Side.TheVariants.{First}
 use Rattle.club_rules.specs.GameRules.{GameRules}
@@ -20,11 +20,11 @@ module _ {P M E T : Type 0} (rules : GameRules P M E T) (key : Option (List ℕ)
   row-plies = sym (length-map r.moves (λ m. record { made = m; moment = moment }))
 
   pub row-clocks : (terms : Terms) (first second : ℕ)
-      → clocks_with first second moment ≡ spend_all terms.increment First (at_moment moment (length r.moves))
+      → clocks_with first second moment ≡ spend_all terms.increment [] 0 First (at_moment moment (length r.moves))
       (clocks_with terms.budget terms.budget moment)
       → clocks_with first second moment ≡ clocks_of (imported rules key pairing moment r) terms
   row-clocks terms first second is = is ∙ ap
-      (λ l. spend_all terms.increment First l (clocks_with terms.budget terms.budget moment))
+      (λ l. spend_all terms.increment [] 0 First l (clocks_with terms.budget terms.budget moment))
       (sym (moments-at moment r.moves))
 
   pub row-track : (t : T) → t ≡ line_track rules rules.start r.moves
@@ -36,10 +36,11 @@ module _ {P M E T : Type 0} (rules : GameRules P M E T) (key : Option (List ℕ)
   row-position p is = is ∙ ap (position_after rules rules.start) (sym (made-again moment r.moves))
 
   pub row-end : (end : Option E) → end ≡ rules.judge rules.start r.moves
-      → end_with end (recorded_end end r.score) ≡ end_of rules (imported rules key pairing moment r)
+      → end_with end None (recorded_end end r.score) ≡ end_of rules (imported rules key pairing moment r)
   row-end end is =
-      ap (λ e. end_with e (recorded_end e r.score)) is
-      ∙ ap (λ ms. end_with (rules.judge rules.start ms) (recorded_end (rules.judge rules.start r.moves) r.score))
+      ap (λ e. end_with e None (recorded_end e r.score)) is
+      ∙ ap
+      (λ ms. end_with (rules.judge rules.start ms) None (recorded_end (rules.judge rules.start r.moves) r.score))
       (sym (made-again moment r.moves))
 
   pub row-result : IsGameByRules rules r → Some r.score ≡ result_of rules (imported rules key pairing moment r)

@@ -10,7 +10,8 @@ use club_core::StoredGames;
 use club_rules::{RecordReading, RecordedGame, Rules};
 use squares::Score;
 
-/// The moves of a stored game, and its result, which is `None` while the game is running.
+/// The moves of a stored game, and its result without the arbiter's verdict: `None` if only a verdict has ended it, or
+/// nothing.
 #[derive(Drop)]
 pub struct PlayedGame<M> {
     pub moves: Vec<M>,

@@ -1,6 +1,6 @@
 //! The row of an imported game.
 
-ghost use Rattle.std.specs.Prelude.{◌≡◌, ◌≤◌, ◌<◌, ◌+◌, ◌^◌, ℕ, Bool, length, Some, IfOk, IsTrue};
+ghost use Rattle.std.specs.Prelude.{◌≡◌, ◌≤◌, ◌<◌, ◌+◌, ◌^◌, ℕ, Bool, [], length, Some, None, IfOk, IsTrue};
 ghost use Rattle.squares.specs.declared.sides.Side.TheVariants.{First};
 ghost use Rattle.club_rules.specs.Line.{IsPlayedLine, position_after, line_track};
 ghost use Rattle.club_rules.specs.Records.{IsGameByRules};
@@ -87,7 +87,7 @@ fn left_after(budget: u64, increment: u64, plies: usize) -> RemainingTimes
     requires increment { IsTrue (is_increment increment) }
     requires few { plies ≤ most_plies }
     ensures { (moment : ℕ) → clocks_with result.first result.second moment
-        ≡ spend_all increment First (at_moment moment plies) (clocks_with budget budget moment) }
+        ≡ spend_all increment [] 0 First (at_moment moment plies) (clocks_with budget budget moment) }
 {
     let mut left = RemainingTimes {
         first: budget,
@@ -101,9 +101,19 @@ fn left_after(budget: u64, increment: u64, plies: usize) -> RemainingTimes
     left
 }
 
+/// The end of a recorded game for a reason outside the rules: the record's score, if the rules gave no end.
+fn outside_of_record<E>(end: &Option<E>, score: Score) -> Option<OutsideEnd>
+    ensures { result ≡ recorded_end end.now score }
+{
+    match end {
+        Some(_) => None,
+        None => Some(OutsideEnd::Recorded(score)),
+    }
+}
+
 /// The end of a recorded game: by the rules, otherwise as the record states.
 fn end_of_record<E>(end: Option<E>, score: Score) -> Option<GameEnd<E>>
-    ensures { result ≡ end_with end (recorded_end end score) }
+    ensures { result ≡ end_with end None (recorded_end end score) }
 {
     match end {
         Some(end) => Some(GameEnd::Rule(end)),
@@ -151,6 +161,7 @@ pub fn imported_row<R: Rules>(
         left_second: left.second,
         track: R::track_numbers(&line_state.track),
         offer: None,
+        outside: outside_of_record(&end, new.recorded.score),
         end: end_of_record(end, new.recorded.score),
         result: Some(new.recorded.score),
         position,

@@ -4,6 +4,7 @@ use Rattle.std.proofs.Common.{Some, None, Bool, true, false, not, ◌&&◌, refl
 use Rattle.std.proofs.Common.{length-set, inl, inr}
 use Rattle.std.specs.Prelude.{IsTrue, IsSome, IfSome, slice_get, slice_set}
 use Rattle.squares.specs.declared.sides.Side.{Side}
+use Rattle.squares.specs.declared.sides.Side.TheVariants.{First}
 use Rattle.squares.specs.Sides.{other}
 use Rattle.club_rules.specs.declared.names.GameKind.{GameKind}
 use Rattle.club_rules.specs.declared.names.GameKind.TheVariants.{Draughts, Shogi}
@@ -24,14 +25,17 @@ use Rattle.club_core.specs.Keys.{is_key_number, with_key}
 use Rattle.club_core.specs.Closings.{closed_at}
 use Rattle.club_core.specs.Events.{Terms, Event, has_event_name, has_good_values, event_tests, declaring}
 use Rattle.club_core.specs.Challenges.{key_of_challenge, put_challenge, pairing_for, standing_as}
-use Rattle.club_core.specs.Game.{Game, Entry, Clocks, spend, spend_all, clocks_of, left_of, turn_of}
-use Rattle.club_core.specs.State.{AnyGame, draughts, shogi, State, place, key_of, has_key, pairing_of, seated}
+use Rattle.club_core.specs.Rulings.{GivenRuling}
+use Rattle.club_core.specs.Game.{Game, Entry, Clocks, after_rulings, spend, spend_all, opening_clocks, clocks_then}
+use Rattle.club_core.specs.Game.{clocks_of, left_of, turn_of}
+use Rattle.club_core.specs.State.{AnyGame, draughts, shogi, State, place, key_of, has_key, pairing_of, rulings_of}
+use Rattle.club_core.specs.State.{seated}
 use Rattle.club_core.specs.State.{seated_as}
 use Rattle.club_core.specs.State.{with_members, with_events, with_imported, with_game, with_challenge}
 use Rattle.club_core.specs.Legal.{IsLegalGame}
 use Rattle.club_core.specs.LegalState.{Each, IsLegalMember, IsLegalEvent, IsGameOf, IsLegalIn, IsLegalChallenge}
 use Rattle.club_core.specs.LegalState.{HaveUniqueKeys, HaveUniqueKeysIfAny, IsLegalState}
-use Rattle.club_core.proofs.Proved.{NoneHolds, IsPlayedLine-none}
+use Rattle.club_core.proofs.Proved.{NoneHolds, IsPlayedLine-none, no-rulings, since-after}
 use Rattle.club_laws.proofs.ArbiterSteps.{WasKeyed, WasClosed}
 use Rattle.club_laws.proofs.GameSteps.{IsLaterGame, later-game-refl}
 use Rattle.club_laws.proofs.ImportedGames.{spend-since}
@@ -81,19 +85,27 @@ none-had (m ∷ ms) name key none =
     rw (here.1, none-had ms name key parts.1) refl
 
 -- the clocks run from a moment that is at most the last
-pub since-within : {M : Type 0} (increment : ℕ) (side : Side) (es : List (Entry M)) (c : Clocks) (last : ℕ)
-    → c.since ≤ last
-    → Each (λ e. e.moment ≤ last) es → (spend_all increment side (map (λ e. e.moment) es) c).since ≤ last
-since-within increment side [] c last within each = within
-since-within increment side (e ∷ es) c last within each =
-    since-within increment (other side) es (spend increment side e.moment c) last
-    (rw (spend-since increment side e.moment c) (each 0 e refl)) (λ n x at. each (suc n) x at)
+since-within : {M : Type 0} (increment : ℕ) (rs : List GivenRuling) (plies : ℕ) (side : Side) (es : List (Entry M))
+    (c : Clocks) (last : ℕ) → c.since ≤ last → Each (λ e. e.moment ≤ last) es
+    → (spend_all increment rs plies side (map (λ e. e.moment) es) c).since ≤ last
+since-within increment rs plies side [] c last within each = within
+since-within increment rs plies side (e ∷ es) c last within each =
+    let now = after_rulings rs plies c in
+    since-within increment rs (suc plies) (other side) es (spend increment side e.moment now) last
+    (rw (spend-since increment side e.moment now) (each 0 e refl)) (λ n x at. each (suc n) x at)
+
+pub since-until : {M : Type 0} (terms : Terms) (game : Game M) (last : ℕ) → game.start ≤ last
+    → Each (λ e. e.moment ≤ last) game.entries → (clocks_of game terms).since ≤ last
+since-until terms game last start each =
+    rw (since-after game.rulings (length game.entries) (clocks_then game terms))
+    (since-within terms.increment game.rulings 0 First game.entries (opening_clocks game terms) last start each)
 
 -- a legal game of which nothing is after a moment
 pub record IsLegalAt {P M E T : Type 0} (laws : GameRules P M E T) (terms : Terms) (moment : ℕ) (game : Game M)
     : Type 0 where
   pub legal : IsLegalGame laws terms game
   pub entries : Each (λ e. e.moment ≤ moment) game.entries
+  pub rulings : Each (λ r. r.moment ≤ moment) game.rulings
   pub lost_by_time : game.outside ≡ Some Time
       → (clocks_of game terms).since + left_of (turn_of laws game) (clocks_of game terms) < moment
 
@@ -104,6 +116,7 @@ module _ {DM SM P M E T : Type 0} (laws : GameRules P M E T) (kind : GameKind) w
       record {
         legal = of.legal;
         entries = λ n e at. let was : e.moment ≤ s.last = of.entries n e at in omega (arith, was, later);
+        rulings = λ n r at. let was : r.moment ≤ s.last = of.rulings n r at in omega (arith, was, later);
         lost_by_time = λ is. let was = of.lost_by_time is in omega (arith, was, later);
       }
 
@@ -125,12 +138,14 @@ module _ {DM SM P M E T : Type 0} (laws : GameRules P M E T) (kind : GameKind) w
           offer = tt;
           outside = tt;
           players = apart;
+          rulings = no-rulings laws e.terms (seated key pairing moment) refl;
         };
         first = is_first;
         second = is_second;
         key = named;
         start = now;
         entries = λ n x at. cc;
+        rulings = λ n x at. cc;
         lost_by_time = λ is. cc;
       }
 
@@ -172,6 +187,7 @@ module _ {DP DM DE DT SP SM SE ST : Type 0} (kinds : ClubRules DP DM DE DT SP SM
           key = rw (ap (λ g. g.key) is.head) of.key;
           start = let same = ap (λ g. g.start) is.head in omega (arith, same, of.start, later.last);
           entries = legal.entries;
+          rulings = legal.rulings;
           lost_by_time = rw terms legal.lost_by_time;
         }
 
@@ -241,6 +257,7 @@ module _ {DP DM DE DT SP SM SE ST : Type 0} (kinds : ClubRules DP DM DE DT SP SM
               record {
                 keys = each-append (λ m. m.later ≡ []) s.members _ without.keys refl;
                 events = without.events;
+                games = without.games;
               };
         }
 
@@ -350,6 +367,7 @@ module _ {DP DM DE DT SP SM SE ST : Type 0} (kinds : ClubRules DP DM DE DT SP SM
               record {
                 keys = without.keys;
                 events = each-append (λ e. e.closed ≡ None) s.events (declaring event) without.events refl;
+                games = without.games;
               };
         }
 
@@ -359,8 +377,10 @@ module _ {DP DM DE DT SP SM SE ST : Type 0} (kinds : ClubRules DP DM DE DT SP SM
         → Each (IsLegalIn kinds (record s { last = moment; games = all; challenges = put })) all
         → length all ≤ most_games → HaveUniqueKeysIfAny (λ g. key_of g) all
         → Each (IsLegalChallenge (record s { last = moment; games = all; challenges = put })) put
-        → HaveUniqueKeys key_of_challenge put → IsLegalState kinds (record s { last = moment; games = all; challenges = put })
-    with-parts all put later games count keys challenges numbers =
+        → HaveUniqueKeys key_of_challenge put
+        → (s.has_arbiter ≡ false → Each (λ g. rulings_of g ≡ []) all)
+        → IsLegalState kinds (record s { last = moment; games = all; challenges = put })
+    with-parts all put later games count keys challenges numbers no_ruling =
         record {
           last = within;
           members = legal.members;
@@ -377,7 +397,7 @@ module _ {DP DM DE DT SP SM SE ST : Type 0} (kinds : ClubRules DP DM DE DT SP SM
           challenges = challenges;
           challenge_numbers = numbers;
           without_arbiter = λ none. let without = legal.without_arbiter none in
-              record { keys = without.keys; events = without.events };
+              record { keys = without.keys; events = without.events; games = no_ruling none };
         }
 
     -- a challenge is put, which follows from the one in its place
@@ -388,26 +408,30 @@ module _ {DP DM DE DT SP SM SE ST : Type 0} (kinds : ClubRules DP DM DE DT SP SM
         legal.game_keys
         (each-put (IsLegalChallenge (with_challenge s moment c)) s.challenges c (challenges-stay s _ later legal)
         (challenge-stays s _ later c is_legal)) (apart-put s.challenges c legal.challenge_numbers)
+        (λ none. let without = legal.without_arbiter none in without.games)
 
     -- a game is added, whose key no other game has
-    pub any-added : (new : AnyGame DM SM) → IsLegalIn kinds (with_imported s moment new) new
+    pub any-added : (new : AnyGame DM SM) → IsLegalIn kinds (with_imported s moment new) new → rulings_of new ≡ []
         → length s.games < most_games → ((n : ℕ) (g : AnyGame DM SM) (b : List ℕ) → slice_get s.games n ≡ Some g
         → key_of g ≡ Some b → key_of new ≡ Some b → ⊥) → IsLegalState kinds (with_imported s moment new)
-    any-added new is_legal room apart =
+    any-added new is_legal no_ruling room apart =
         let later = game-added-later kinds s moment rises new in
         let count : length (s.games ++ new ∷ []) ≡ length s.games + 1 = simp length-append in
         with-parts (s.games ++ new ∷ []) s.challenges later
         (each-append (IsLegalIn kinds (with_imported s moment new)) s.games new (games-stay s _ later legal) is_legal)
         (omega (arith, count, room)) (are_apart_if_any-append (λ g. key_of g) s.games new legal.game_keys apart)
         (challenges-stay s _ later legal) legal.challenge_numbers
+        (λ none.
+        let without = legal.without_arbiter none in
+        each-append (λ g. rulings_of g ≡ []) s.games new without.games no_ruling)
 
     -- a game is added under a key that is free
     pub game-added : (new : AnyGame DM SM) (key : List ℕ) → IsLegalIn kinds (with_imported s moment new) new
-        → length s.games < most_games → key_of new ≡ Some key
+        → rulings_of new ≡ [] → length s.games < most_games → key_of new ≡ Some key
         → ((n : ℕ) (g : AnyGame DM SM) → slice_get s.games n ≡ Some g → has_key key g ≡ false)
         → IsLegalState kinds (with_imported s moment new)
-    game-added new key is_legal room keyed fresh =
-        any-added new is_legal room
+    game-added new key is_legal no_ruling room keyed fresh =
+        any-added new is_legal no_ruling room
         (λ n g b at has same. false-true _ (rw has at (fresh n g at))
         (bytes_eq-same b key (let both : Some b ≡ Some key = sym same ∙ keyed in cc)))
 
@@ -415,32 +439,40 @@ module _ {DP DM DE DT SP SM SE ST : Type 0} (kinds : ClubRules DP DM DE DT SP SM
     pub games-changed : (all : List (AnyGame DM SM)) → IsLater kinds s (record s { last = moment; games = all })
         → length all ≡ length s.games → ((n : ℕ) (new : AnyGame DM SM) → slice_get all n ≡ Some new
         → (old : AnyGame DM SM) × (slice_get s.games n ≡ Some old) × (key_of new ≡ key_of old)
+        × (s.has_arbiter ≡ false → rulings_of new ≡ rulings_of old)
         × IsLegalIn kinds (record s { last = moment; games = all }) new)
         → IsLegalState kinds (record s { last = moment; games = all })
     games-changed all later count was =
-        with-parts all s.challenges later (λ n new at. let (old, stood, key, is_legal) = was n new at in is_legal)
+        with-parts all s.challenges later
+        (λ n new at. let (old, stood, key, ruled, is_legal) = was n new at in is_legal)
         (let few = legal.game_count in omega (arith, count, few))
         (λ i j a b key at_i at_j key_i key_j.
-        let (x, stood_x, key_x, _) = was i a at_i in
-        let (y, stood_y, key_y, _) = was j b at_j in
+        let (x, stood_x, key_x, _, _) = was i a at_i in
+        let (y, stood_y, key_y, _, _) = was j b at_j in
         legal.game_keys i j x y key stood_x stood_y (sym key_x ∙ key_i) (sym key_y ∙ key_j))
         (challenges-stay s _ later legal) legal.challenge_numbers
+        (λ none n new at.
+        let (old, stood, key, ruled, is_legal) = was n new at in
+        let without = legal.without_arbiter none in
+        ruled none ∙ without.games n old stood)
 
     -- a game is changed
     pub game-changed : (id : ℕ) (old new : AnyGame DM SM) → place s.games id ≡ Some old → IsLaterAny kinds old new
+        → (s.has_arbiter ≡ false → rulings_of new ≡ rulings_of old)
         → IsLegalIn kinds (with_game s moment id new) new → IsLegalState kinds (with_game s moment id new)
-    game-changed zero old new at is_later is_legal = cc
-    game-changed (suc k) old new at is_later is_legal =
+    game-changed zero old new at is_later no_ruling is_legal = cc
+    game-changed (suc k) old new at is_later no_ruling is_legal =
         let before : suc k - 1 ≡ k = omega arith in
         let later = game-later kinds s moment rises (suc k) old new at is_later in
         games-changed (slice_set s.games (suc k - 1) new) later (simp length-set)
         (λ n x is.
         elim (got-set s.games (suc k - 1) new n x is) [
-          | inl stays ↦ (x, stays, refl, games-stay s _ later legal n x stays)
+          | inl stays ↦ (x, stays, refl, (λ none. refl), games-stay s _ later legal n x stays)
           | inr put ↦ (
             old,
             rw (put.0, before) at,
             rw (← put.1) (key-later kinds old new is_later),
+            rw (← put.1) no_ruling,
             rw (← put.1) is_legal,
           )
         ])

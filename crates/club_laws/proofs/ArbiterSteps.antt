@@ -56,12 +56,12 @@ module _ (all : List Member) (name : List ℕ) (number : ℕ) (key : List ℕ) (
   pub was-keyed : key_step all name number key ≡ accepted new reply → WasKeyed all name number key new reply
   was-keyed is = key-by-name (find_id (has_member_name name) all) refl is
 
-none-past : {A : Type 0} (xs : List A) (n : ℕ) → is_some (slice_get xs n) ≡ false → length xs ≤ n
+pub none-past : {A : Type 0} (xs : List A) (n : ℕ) → is_some (slice_get xs n) ≡ false → length xs ≤ n
 none-past [] n is = omega arith
 none-past (x ∷ xs) zero is = cc
 none-past (x ∷ xs) (suc n) is = let rest = none-past xs n is in omega (arith, rest)
 
-next-number : (n count : ℕ) → count ≤ n → (nat_le 1 (suc n) && nat_le (suc n) (count + 1)) ≡ true → n ≡ count
+pub next-number : (n count : ℕ) → count ≤ n → (nat_le 1 (suc n) && nat_le (suc n) (count + 1)) ≡ true → n ≡ count
 next-number n count past is = grind (arith, nat_tests)
 
 -- a fresh number is the next one

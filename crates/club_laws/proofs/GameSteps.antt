@@ -12,20 +12,22 @@ use Rattle.club_rules.specs.GameRules.{GameRules}
 use Rattle.club_requests.specs.declared.outside_end.OutsideEnd.{OutsideEnd}
 use Rattle.club_requests.specs.declared.outside_end.OutsideEnd.TheVariants.{Resigned, Agreed, Time, Declared}
 use Rattle.club_requests.specs.declared.requests.Caller.{Caller}
+use Rattle.club_requests.specs.declared.rulings.Verdict.{Verdict}
 use Rattle.club_requests.specs.declared.refusals.Refusal.{Refusal}
 use Rattle.club_requests.specs.declared.refusals.Refusal.TheVariants.{NotAllowed, NotInThisGame}
 use Rattle.club_requests.specs.Outcome.{Reply, draw_offered, accepted, first_refusal, unless, unless_repeat}
 use Rattle.club_core.specs.declared.rows.Offer.{Offer}
 use Rattle.club_core.specs.Events.{Terms}
-use Rattle.club_core.specs.Game.{Game, Entry, last_position, turn_of, score_with, end_with, rule_end}
+use Rattle.club_core.specs.Rulings.{GivenRuling, verdict_of}
+use Rattle.club_core.specs.Game.{Game, Entry, last_position, turn_of, end_with, rule_end}
 use Rattle.club_core.specs.Step.{GameCommand, move, offer_draw, accept_draw, resign, claim_time, declare, may_give}
 use Rattle.club_core.specs.Step.{asked_ply, caller_side, has_offer, repeat_of_offer, played, offered, ended, checked}
 use Rattle.club_core.specs.Step.{is_over, move_at, repeat_of, reply_of_move, reply_of_end, ends, plays}
 use Rattle.club_core.specs.Step.{repeat_of_accept}
 use Rattle.club_core.specs.Step.{repeat_of_resign, repeat_of_claim, repeat_of_declare, move_tests, offer_tests}
 use Rattle.club_core.specs.Step.{accept_tests, resign_tests, claim_tests, declare_tests, move_refusal, offer_refusal}
-use Rattle.club_core.specs.Step.{side_step, by_side, game_step, is_overdue, swept}
-use Rattle.club_core.proofs.Proved.{NoneHolds, none-holds}
+use Rattle.club_core.specs.Step.{side_step, by_side, game_step, is_overdue, is_late, swept}
+use Rattle.club_core.proofs.Proved.{AreFrom, NoneHolds, are_from-append, are_from-fewer, none-holds}
 use Rattle.club_laws.proofs.Accepts.{unless-accepted, accepted-same, if-accepted}
 
 -- one list begins with the other
@@ -63,6 +65,9 @@ no-repeat : (b : Bool) (reply : Reply) → (if b then Some reply else None) ≡ 
 no-repeat true reply is = cc
 no-repeat false reply is = refl
 
+abbrev rulings_in : {M : Type 0} → Game M → List GivenRuling
+rulings_in game = game.rulings
+
 -- a ply that is the next
 pub is-next : (ply n : ℕ) → not (ply == n + 1) ≡ false → ply ≡ n + 1
 is-next ply n is = grind (arith, nat_tests)
@@ -70,10 +75,18 @@ is-next ply n is = grind (arith, nat_tests)
 module _ {P M E T : Type 0} (laws : GameRules P M E T) where
   pub record IsLaterGame (game new : Game M) : Type 0 where
     -- its key, its event, its players and its start stay
-    pub head : new ≡ record game { entries = new.entries; offer = new.offer; outside = new.outside }
+    pub head : new ≡ record game {
+      entries = new.entries;
+      offer = new.offer;
+      outside = new.outside;
+      rulings = new.rulings;
+    }
     pub entries : Begins game.entries new.entries
-    -- a game that is over stays as it is
-    pub over : is_over laws game ≡ true → new ≡ game
+    -- a game that is over stays so, and stays as it is but for further rulings
+    pub over : is_over laws game ≡ true → (new ≡ record game { rulings = new.rulings }) × (is_over laws new ≡ true)
+    -- further rulings came after its moves
+    pub rulings : (more : List GivenRuling) × (new.rulings ≡ game.rulings ++ more)
+        × AreFrom more (length game.entries)
     -- an offer of the next ply stands until a move is made
     pub offered : (offer : Offer) → game.offer ≡ Some offer → offer.ply ≡ length game.entries + 1
         → length new.entries ≡ length game.entries → new.offer ≡ Some offer
@@ -83,7 +96,8 @@ module _ {P M E T : Type 0} (laws : GameRules P M E T) where
       record {
         head = refl;
         entries = begins-refl game.entries;
-        over = λ is. refl;
+        over = λ is. (refl, is);
+        rulings = ([], sym (append-nil game.rulings), tt);
         offered = λ offer is next same. is;
       }
 
@@ -91,9 +105,27 @@ module _ {P M E T : Type 0} (laws : GameRules P M E T) where
   later-game-trans a b c first second =
       record {
         head = second.head
-            ∙ ap (λ (g : Game M). record g { entries = c.entries; offer = c.offer; outside = c.outside }) first.head;
+            ∙ ap
+            (λ (g : Game M). record g {
+              entries = c.entries;
+              offer = c.offer;
+              outside = c.outside;
+              rulings = c.rulings;
+            }) first.head;
         entries = begins-trans a.entries b.entries c.entries first.entries second.entries;
-        over = λ is. let same : b ≡ a = first.over is in second.over (ap (λ g. is_over laws g) same ∙ is) ∙ same;
+        over = λ is.
+            let (same, over_b) = first.over is in
+            let (same_c, over_c) = second.over over_b in
+            (same_c ∙ ap (λ (g : Game M). record g { rulings = c.rulings }) same, over_c);
+        rulings =
+            let (more, grown, from) = first.rulings in
+            let (further, grown_then, from_then) = second.rulings in
+            let count_b = begins-length a.entries b.entries first.entries in (
+              more ++ further,
+              grown_then ∙ (ap (λ l. l ++ further) grown ∙ append_assoc a.rulings more further),
+              are_from-append more further (length a.entries) from
+                  (are_from-fewer further (length a.entries) (length b.entries) (omega (arith, count_b)) from_then),
+            );
         offered = λ offer is next same.
             let count_b = begins-length a.entries b.entries first.entries in
             let count_c = begins-length b.entries c.entries second.entries in
@@ -112,11 +144,12 @@ module _ {P M E T : Type 0} (laws : GameRules P M E T) where
 
   -- a game with an end from outside is over
   pub ended-over : (game : Game M) (end : OutsideEnd) → is_over laws (ended game end) ≡ true
-  ended-over game end = some (rule_end laws game)
+  ended-over game end = some (rule_end laws game) (verdict_of game.rulings)
     where
-      some : (e : Option E) → is_some (score_with laws (end_with e (Some end)) (turn_of laws game)) ≡ true
-      some None = refl
-      some (Some e) = refl
+      some : (e : Option E) (v : Option Verdict) → is_some (end_with e v (Some end)) ≡ true
+      some (Some e) v = refl
+      some None (Some v) = refl
+      some None None = refl
 
 module _ {P M E T : Type 0} (laws : GameRules P M E T) (terms : Terms) (game : Game M) (moment : ℕ) where
   -- what an accepted command of a side found: each began with that the game is not over
@@ -197,6 +230,7 @@ module _ {P M E T : Type 0} (laws : GameRules P M E T) (terms : Terms) (game : G
           head = refl;
           entries = begins;
           over = λ is. let both : false ≡ true = sym running ∙ is in absurd cc;
+          rulings = ([], sym (append-nil game.rulings), tt);
           offered = offered;
         }
 
@@ -226,6 +260,16 @@ module _ {P M E T : Type 0} (laws : GameRules P M E T) (terms : Terms) (game : G
   side-later side claim_time new reply found left = ended-later found.0 new Time left.0
   side-later side (declare ply) new reply found left = ended-later found.0 new Declared left.0
 
+  -- it leaves the rulings
+  side-rulings : (side : Side) (command : GameCommand) (new : Game M) (reply : Reply) → Leaves side command new reply
+      → new.rulings ≡ game.rulings
+  side-rulings side (move ply text) new reply left = ap (λ g. g.rulings) (sym left.2)
+  side-rulings side (offer_draw ply) new reply left = ap (λ g. g.rulings) (sym left.0)
+  side-rulings side (accept_draw ply) new reply left = ap (λ g. g.rulings) (sym left.0)
+  side-rulings side resign new reply left = ap (λ g. g.rulings) (sym left.0)
+  side-rulings side claim_time new reply left = ap (λ g. g.rulings) (sym left.0)
+  side-rulings side (declare ply) new reply left = ap (λ g. g.rulings) (sym left.0)
+
   -- an accepted command was given by one who may, for a side, and leads to a later game
   pub record WasGiven (who : Caller) (command : GameCommand) (new : Game M) (reply : Reply) : Type 0 where
     pub may : may_give who command ≡ true
@@ -234,6 +278,7 @@ module _ {P M E T : Type 0} (laws : GameRules P M E T) (terms : Terms) (game : G
     pub found : Finds side command
     pub left : Leaves side command new reply
     pub later : IsLaterGame laws game new
+    pub rulings : new.rulings ≡ game.rulings
 
   pub was-given : (who : Caller) (command : GameCommand) (new : Game M) (reply : Reply)
       → game_step laws terms game moment who command ≡ accepted new reply → WasGiven who command new reply
@@ -253,6 +298,7 @@ module _ {P M E T : Type 0} (laws : GameRules P M E T) (terms : Terms) (game : G
             found = both.0;
             left = both.1;
             later = side-later side command new reply both.0 both.1;
+            rulings = side-rulings side command new reply both.1;
           }
 
   -- a sweep ends running games alone
@@ -264,3 +310,10 @@ module _ {P M E T : Type 0} (laws : GameRules P M E T) (terms : Terms) (game : G
       late-later true late is = later-game-refl laws game
       late-later false true is = ended-later is (ended game Time) Time refl
       late-later false false is = later-game-refl laws game
+
+  pub swept-rulings : (swept laws terms game moment).rulings ≡ game.rulings
+  swept-rulings = late-rulings (is_late laws terms game moment)
+    where
+      late-rulings : (late : Bool) → rulings_in (if late then ended game Time else game) ≡ game.rulings
+      late-rulings true = refl
+      late-rulings false = refl

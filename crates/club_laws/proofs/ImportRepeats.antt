@@ -24,7 +24,7 @@ use Rattle.club_laws.proofs.GameSteps.{IsLaterGame}
 use Rattle.club_laws.proofs.Later.{IsLater, IsLaterAny}
 use Rattle.club_laws.proofs.LaterParts.{IsEachLater, IsLaterEvent, event-named-later, place-each-later}
 use Rattle.club_laws.proofs.SeatSteps.{added-found, seats-again}
-use Rattle.club_laws.proofs.ImportedGames.{imported-result, record-of-itself}
+use Rattle.club_laws.proofs.ImportedGames.{imported-over, record-of-itself}
 use Rattle.club_laws.proofs.ImportSteps.{kind-found, was-imported, by-rules}
 use Rattle.club_laws.proofs.Repeats.{RepeatsImport}
 
@@ -49,11 +49,6 @@ module _ {DP DM DE DT SP SM SE ST P M E T : Type 0} (kinds : ClubRules DP DM DE 
     × (new ≡ wrap later) × IsLaterGame laws g later) (s t : State DM SM) (moment again : ℕ) (given : Import) where
   abbrev with_record : State DM SM → ℕ → Imported M → State DM SM
   with_record u at i = with_imported u at (wrap (imported laws (Some given.key) i.pairing at i.recorded))
-
-  -- a game that was over stands where it stood
-  over-stays : (n : ℕ) (any : AnyGame DM SM) (game later : Game M) → slice_get t.games n ≡ Some any → any ≡ wrap later
-      → IsLaterGame laws game later → is_over laws game ≡ true → slice_get t.games n ≡ Some (wrap game)
-  over-stays n any game later at any_is since over = at ∙ ap Some (any_is ∙ ap wrap (since.over over))
 
   looked-up-again : (after : State DM SM) (reply : Reply)
       →
@@ -81,14 +76,14 @@ module _ {DP DM DE DT SP SM SE ST P M E T : Type 0} (kinds : ClubRules DP DM DE 
       given.first given.second i.pairing reply (wrap_pairing game) was.seated in
       let (any, any_at, any_later) = since.games (length s.games) new (at-last s.games new) in
       let (stays, any_is, is_later) = unwrap game any any_later in
-      let result = imported-result laws (Some given.key) i.pairing moment i.recorded by in
-      let over : is_over laws game ≡ true = rw result refl in
-      let stands = over-stays (length s.games) any game stays any_at any_is is_later over in
+      let over : is_over laws game ≡ true = imported-over laws (Some given.key) i.pairing moment i.recorded in
       let next_id : length s.games + 1 ≡ suc (length s.games) = add-one (length s.games) in
-      let at : any_under t.games given.key ≡ Some new = ap (at_found t.games) (found ∙ ap Some next_id) ∙ stands in
-      let old : in_kind (any_under t.games given.key) ≡ Some game = ap in_kind at ∙ wrapped game in
-      let record_same : is_record_of laws game i.recorded ≡ true =
-      record-of-itself laws are_rules (Some given.key) i.pairing moment i.recorded by in
+      let at : any_under t.games given.key ≡ Some (wrap stays) =
+      ap (at_found t.games) (found ∙ ap Some next_id) ∙ (any_at ∙ ap Some any_is) in
+      let old : in_kind (any_under t.games given.key) ≡ Some stays = ap in_kind at ∙ wrapped stays in
+      let record_same : is_record_of laws stays i.recorded ≡ true =
+      ap (λ g. is_record_of laws g i.recorded) (is_later.over over).0
+      ∙ record-of-itself laws are_rules (Some given.key) i.pairing moment i.recorded by in
       rw (in_event, old, was.reading, record_same, same) refl
 
 module _ {DP DM DE DT SP SM SE ST : Type 0} (kinds : ClubRules DP DM DE DT SP SM SE ST)

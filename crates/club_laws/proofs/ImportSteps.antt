@@ -19,7 +19,8 @@ use Rattle.club_core.specs.Seats.{has_member_name, are_distinct, pair}
 use Rattle.club_core.specs.Game.{Game}
 use Rattle.club_core.specs.Imports.{Import, Imported, imported, has_part, reading_of_import, read_in, repeat_of_import}
 use Rattle.club_core.specs.Imports.{import_tests, import_refusal, import_between, import_found}
-use Rattle.club_core.specs.State.{AnyGame, draughts, shogi, State, state_after, place, key_of, game_under, any_under}
+use Rattle.club_core.specs.State.{AnyGame, draughts, shogi, State, state_after, place, key_of, rulings_of, game_under}
+use Rattle.club_core.specs.State.{any_under}
 use Rattle.club_core.specs.State.{draughts_in, shogi_in, with_imported, import_looked_up, import_as}
 use Rattle.club_core.specs.LegalState.{IsGameOf, IsLegalIn, IsLegalState}
 use Rattle.club_core.proofs.Proved.{AreRules, none-holds}
@@ -95,6 +96,7 @@ module _ {P M E T : Type 0} (laws : GameRules P M E T) (records : GameRecords M)
 module _ {DP DM DE DT SP SM SE ST P M E T : Type 0} (kinds : ClubRules DP DM DE DT SP SM SE ST)
     (laws : GameRules P M E T) (are_rules : AreRules laws) (records : GameRecords M) (reads : ReadsGames laws records)
     (kind : GameKind) (wrap : Game M → AnyGame DM SM) (wrap_key : (g : Game M) → key_of (wrap g) ≡ g.key)
+    (wrap_rulings : (g : Game M) → rulings_of (wrap g) ≡ g.rulings)
     (wrap_legal : (t : State DM SM) (g : Game M) → IsGameOf laws kind t g → IsLegalIn kinds t (wrap g))
     (s : State DM SM) (moment : ℕ) (given : Import) (rises : s.last ≤ moment) (within : moment ≤ last_moment)
     (legal : IsLegalState kinds s) where
@@ -122,11 +124,12 @@ module _ {DP DM DE DT SP SM SE ST P M E T : Type 0} (kinds : ClubRules DP DM DE 
         key = seats.named;
         start = omega arith;
         entries = λ n x is. let same = each-at moment i.recorded.moves n x is in omega (arith, same);
+        rulings = λ n x is. cc;
         lost_by_time = λ is.
             let same = as-recorded (laws.judge laws.start i.recorded.moves) i.recorded.score Time is in
             absurd cc;
       }))
-      seats.room (wrap_key game) (fresh-key s.games given.key seats.fresh)
+      (wrap_rulings game) seats.room (wrap_key game) (fresh-key s.games given.key seats.fresh)
 
 module _ {DP DM DE DT SP SM SE ST : Type 0} (kinds : ClubRules DP DM DE DT SP SM SE ST)
     (are_draughts : AreRules kinds.draughts) (are_shogi : AreRules kinds.shogi)
@@ -140,8 +143,9 @@ module _ {DP DM DE DT SP SM SE ST : Type 0} (kinds : ClubRules DP DM DE DT SP SM
       as-kept Draughts is =
           officer-later (IsLegalState kinds) s _ who _ legal
           (record-added kinds kinds.draughts are_draughts kinds.draughts_records reads_draughts Draughts draughts
-          (λ g. refl) (λ t g of. of) s moment given rises within legal is (draughts_in (any_under s.games given.key)))
+          (λ g. refl) (λ g. refl) (λ t g of. of) s moment given rises within legal is
+          (draughts_in (any_under s.games given.key)))
       as-kept Shogi is =
           officer-later (IsLegalState kinds) s _ who _ legal
           (record-added kinds kinds.shogi are_shogi kinds.shogi_records reads_shogi Shogi shogi (λ g. refl)
-          (λ t g of. of) s moment given rises within legal is (shogi_in (any_under s.games given.key)))
+          (λ g. refl) (λ t g of. of) s moment given rises within legal is (shogi_in (any_under s.games given.key)))

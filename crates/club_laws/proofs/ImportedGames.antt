@@ -1,7 +1,7 @@
 -- The game of a record is legal, and its result is the record's.
 use Rattle.std.proofs.Common.{◌≡◌, ◌≢◌, ℕ, zero, suc, ◌<◌, ◌≤◌, List, [], ◌∷◌, length, map, take, Option, Some, None}
 use Rattle.std.proofs.Common.{Bool, true, false, not, ◌&&◌, refl, ap, sym, ◌∙◌, subst, arith}
-use Rattle.std.specs.Prelude.{IsSome, IfSome, slice_get, if◌then◌else◌}
+use Rattle.std.specs.Prelude.{IsSome, IfSome, is_some, slice_get, if◌then◌else◌}
 use Rattle.std.proofs.lemmas.List.{length-map, length-take-le}
 use Rattle.squares.specs.declared.sides.Side.{Side}
 use Rattle.squares.specs.declared.sides.Side.TheVariants.{First, Second}
@@ -21,7 +21,8 @@ use Rattle.club_core.specs.declared.seats.Pairing.{Pairing}
 use Rattle.club_core.specs.Game.{Entry, Clocks, spend, end_with, score_with, result_of}
 use Rattle.club_core.specs.Imports.{recorded_end, has_score, same_moves, is_record_of, imported, read_in}
 use Rattle.club_core.specs.Legal.{IsTimely, IsLegalGame, MayEndBy}
-use Rattle.club_core.proofs.Proved.{AreRules}
+use Rattle.club_core.specs.Step.{is_over}
+use Rattle.club_core.proofs.Proved.{AreRules, no-rulings}
 
 -- the moves of a record, all at one moment
 abbrev pub entries_at : {M : Type 0} → ℕ → List M → List (Entry M)
@@ -44,13 +45,14 @@ spend-since increment First m c = refl
 spend-since increment Second m c = refl
 
 -- moves at the moment from which the clocks run are made in time
-at-once : {M : Type 0} (increment : ℕ) (side : Side) (moment : ℕ) (ms : List M) (c : Clocks) → c.since ≡ moment
-    → IsTimely increment side (map (λ e. e.moment) (entries_at moment ms)) c
-at-once increment side moment [] c since = tt
-at-once increment side moment (m ∷ ms) c since = (
+at-once : {M : Type 0} (increment plies : ℕ) (side : Side) (moment : ℕ) (ms : List M) (c : Clocks) → c.since ≡ moment
+    → IsTimely increment [] plies side (map (λ e. e.moment) (entries_at moment ms)) c
+at-once increment plies side moment [] c since = tt
+at-once increment plies side moment (m ∷ ms) c since = (
   omega (arith, since),
   omega (arith, since),
-  at-once increment (other side) moment ms (spend increment side moment c) (spend-since increment side moment c),
+  at-once increment (suc plies) (other side) moment ms (spend increment side moment c)
+      (spend-since increment side moment c),
 )
 
 outside-only : {E : Type 0} (end : Option E) (result : Score) → IsSome (recorded_end end result) → end ≡ None
@@ -87,7 +89,7 @@ module _ {P M E T : Type 0} (laws : GameRules P M E T) where
   legal-take (suc k) p (m ∷ ms) line = (line.0, legal-take k (laws.play p m) ms line.1)
 
   score-of : (end : Option E) (turn : Side) (result : Score) → ((e : E) → end ≡ Some e → result ≡ laws.outcome e turn)
-      → score_with laws (end_with end (recorded_end end result)) turn ≡ Some result
+      → score_with laws (end_with end None (recorded_end end result)) turn ≡ Some result
   score-of None turn result says = refl
   score-of (Some e) turn result says = ap Some (sym (says e refl))
 
@@ -97,9 +99,22 @@ module _ {P M E T : Type 0} (laws : GameRules P M E T) where
   imported-result key pairing moment r by =
       let end = laws.judge laws.start r.moves in
       ap
-      (λ ms. score_with laws (end_with (laws.judge laws.start ms) (recorded_end end r.score))
+      (λ ms. score_with laws (end_with (laws.judge laws.start ms) None (recorded_end end r.score))
       (laws.turn (position_after laws laws.start ms))) (made-again moment r.moves)
       ∙ score-of end (laws.turn (position_after laws laws.start r.moves)) r.score by.score
+
+  over-recorded : (end : Option E) (result : Score) → is_some (end_with end None (recorded_end end result)) ≡ true
+  over-recorded None result = refl
+  over-recorded (Some e) result = refl
+
+  -- and it is over
+  pub imported-over : (key : Option (List ℕ)) (pairing : Pairing) (moment : ℕ) (r : Recorded M)
+      → is_over laws (imported laws key pairing moment r) ≡ true
+  imported-over key pairing moment r =
+      let end = laws.judge laws.start r.moves in
+      ap (λ ms. is_some (end_with (laws.judge laws.start ms) None (recorded_end end r.score)))
+      (made-again moment r.moves)
+      ∙ over-recorded end r.score
 
   module _ (are_rules : AreRules laws) where
     pub within-limit : (ms : List M) → IsPlayedLine laws laws.start ms → length ms ≤ ply_limit
@@ -137,12 +152,13 @@ module _ {P M E T : Type 0} (laws : GameRules P M E T) where
         record {
           line = subst (λ ms. IsPlayedLine laws laws.start ms) (sym moves) by.line;
           plies = omega (arith, count, few);
-          timely = at-once terms.increment First moment r.moves
+          timely = at-once terms.increment 0 First moment r.moves
               (record { left_first = terms.budget; left_second = terms.budget; since = moment }) refl;
           outside_alone = λ some. ap (laws.judge laws.start) moves ∙ outside-only end r.score some;
           offer = tt;
           outside = record-fits end r.score;
           players = apart;
+          rulings = no-rulings laws terms (imported laws (Some key) pairing moment r) refl;
         }
       where
         record-fits : (end : Option E) (score : Score)

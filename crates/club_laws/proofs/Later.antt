@@ -7,7 +7,9 @@ use Rattle.club_rules.specs.declared.names.GameKind.{GameKind}
 use Rattle.club_rules.specs.declared.names.GameKind.TheVariants.{Draughts, Shogi}
 use Rattle.club_requests.specs.declared.requests.Caller.{Caller}
 use Rattle.club_requests.specs.declared.requests.Caller.TheVariants.{Officer, Member}
-use Rattle.club_requests.specs.Outcome.{Reply, member_added, event_added, accepted, by_officer}
+use Rattle.club_requests.specs.declared.rulings.Ruling.{Ruling}
+use Rattle.club_requests.specs.Outcome.{Reply, member_added, event_added, accepted, refused, by_officer}
+use Rattle.club_requests.specs.declared.refusals.Refusal.TheVariants.{UnknownGame}
 use Rattle.club_core.specs.ClubRules.{ClubRules}
 use Rattle.club_core.specs.declared.challenges.Challenge.{Challenge}
 use Rattle.club_core.specs.declared.challenges.ChallengeState.{ChallengeState}
@@ -20,15 +22,15 @@ use Rattle.club_core.specs.Seats.{has_member_name, seat_step}
 use Rattle.club_core.specs.Challenges.{is_under, challenge_under, challenge_by, put_challenge, is_open, standing_as}
 use Rattle.club_core.specs.Challenges.{opening_step, withdrawal_step, answer_step}
 use Rattle.club_core.specs.Game.{Game}
-use Rattle.club_core.specs.Step.{GameCommand, game_step}
+use Rattle.club_core.specs.Step.{GameCommand, game_step, ruling_step}
 use Rattle.club_core.specs.State.{AnyGame, draughts, shogi, State, Command, add_member, add_event, seat, import_record}
 use Rattle.club_core.specs.State.{on_game, sweep, open_challenge, withdraw_challenge, answer_challenge, new_key}
-use Rattle.club_core.specs.State.{close_event, Request}
+use Rattle.club_core.specs.State.{close_event, rule, Request}
 use Rattle.club_core.specs.State.{state_after, place, terms_at, key_of, pairing_of, game_under, any_under, draughts_in}
 use Rattle.club_core.specs.State.{shogi_in, caller_of, with_members, with_events, with_new_game, with_imported}
 use Rattle.club_core.specs.State.{with_game}
 use Rattle.club_core.specs.State.{with_challenge, challenge_game, with_answer, swept_any, with_swept, import_looked_up}
-use Rattle.club_core.specs.State.{import_as, step_game, step_command, step_by, next, fold}
+use Rattle.club_core.specs.State.{import_as, step_game, step_ruling, step_command, step_by, next, fold}
 use Rattle.club_laws.proofs.Lists.{get-append, set-got, map-at}
 use Rattle.club_core.specs.Keys.{with_key, key_step}
 use Rattle.club_core.specs.Closings.{closed_at, close_step}
@@ -40,6 +42,7 @@ use Rattle.club_laws.proofs.LaterParts.{IsLaterEvent, later-event-refl, later-ev
 use Rattle.club_laws.proofs.GameSteps.{IsLaterGame, later-game-refl}
 use Rattle.club_laws.proofs.GameSteps.{later-game-trans}
 use Rattle.club_laws.proofs.GameSteps.{was-given, swept-game-later}
+use Rattle.club_laws.proofs.RulingSteps.{was-ruled, was-ruled-later}
 use Rattle.club_laws.proofs.PutChallenges.{under-key, under-same, under-found, under-put}
 use Rattle.club_laws.proofs.Challenged.{IsLaterChallenge, later-challenge-refl, later-challenge-trans, closed-later}
 use Rattle.club_laws.proofs.Challenged.{was-opened, was-withdrawn, was-answered}
@@ -315,6 +318,33 @@ module _ {DP DM DE DT SP SM SE ST : Type 0} (kinds : ClubRules DP DM DE DT SP SM
         (λ new reply is. game-later s moment rises id (shogi game) (shogi new) at
         (let was = was-given kinds.shogi terms game moment who command new reply is in (new, refl, was.later)))
 
+    no-game-later : (who : Caller) → IsLater s (state_after s (by_officer who (refused UnknownGame)))
+    no-game-later Officer = later-refl s
+    no-game-later (Member id) = later-refl s
+
+    step-ruling-later : (id number : ℕ) (ruling : Ruling) (who : Caller) (g : Option (AnyGame DM SM))
+        → place s.games id ≡ g
+        → IsLater s (state_after s (by_officer who (step_ruling kinds s moment id number ruling g)))
+    step-ruling-later id number ruling who None at = no-game-later who
+    step-ruling-later id number ruling who (Some (draughts game)) at =
+        officer-later (λ t. IsLater s t) s (λ new. with_game s moment id (draughts new)) who
+        (ruling_step kinds.draughts game number ruling moment) (later-refl s)
+        (λ new reply is. game-later s moment rises id (draughts game) (draughts new) at (
+          new,
+          refl,
+          was-ruled-later kinds.draughts game number ruling moment new reply
+              (was-ruled kinds.draughts game number ruling moment new reply is),
+        ))
+    step-ruling-later id number ruling who (Some (shogi game)) at =
+        officer-later (λ t. IsLater s t) s (λ new. with_game s moment id (shogi new)) who
+        (ruling_step kinds.shogi game number ruling moment) (later-refl s)
+        (λ new reply is. game-later s moment rises id (shogi game) (shogi new) at (
+          new,
+          refl,
+          was-ruled-later kinds.shogi game number ruling moment new reply
+              (was-ruled kinds.shogi game number ruling moment new reply is),
+        ))
+
     import-later : (who : Caller) (given : Import) (kind : GameKind)
         → IsLater s (state_after s (by_officer who (import_as kinds s moment given kind)))
     import-later who given Draughts =
@@ -372,6 +402,7 @@ module _ {DP DM DE DT SP SM SE ST : Type 0} (kinds : ClubRules DP DM DE DT SP SM
         (λ new reply is.
         let was = was-closed s.events event moment new reply is in
         rw (← was.stands) (closing-later s moment rises (was.id - 1) was.event was.stood was.was_open))
+    command-later who (rule id number ruling) = step-ruling-later id number ruling who (place s.games id) refl
 
     pub by-later : (who : Option Caller) (command : Command)
         → IsLater s (state_after s (step_by kinds s moment who command))

@@ -6,21 +6,23 @@ use Rattle.std.proofs.lemmas.Bool.{ltb-false}
 use Rattle.std.proofs.lemmas.Bool.Decides.{nat_tests}
 use Rattle.std.proofs.lemmas.List.{length-map}
 use Rattle.squares.specs.declared.sides.Side.{Side}
-use Rattle.squares.specs.declared.sides.Side.TheVariants.{First}
+use Rattle.squares.specs.declared.sides.Score.{Score}
 use Rattle.squares.specs.Sides.{other}
 use Rattle.club_rules.specs.declared.names.GameKind.{GameKind}
 use Rattle.club_rules.specs.declared.names.GameKind.TheVariants.{Draughts, Shogi}
 use Rattle.club_rules.specs.GameRules.{GameRules}
 use Rattle.club_core.specs.ClubRules.{ClubRules}
 use Rattle.club_requests.specs.declared.outside_end.OutsideEnd.{OutsideEnd}
-use Rattle.club_requests.specs.declared.outside_end.OutsideEnd.TheVariants.{Time}
+use Rattle.club_requests.specs.declared.outside_end.OutsideEnd.TheVariants.{Time, Recorded}
+use Rattle.club_requests.specs.declared.rulings.Ruling.{Ruling}
 use Rattle.club_core.specs.declared.rows.Offer.{Offer}
 use Rattle.club_core.specs.declared.challenges.Challenge.{Challenge}
 use Rattle.club_core.specs.declared.challenges.ChallengeState.TheVariants.{Open, Withdrawn, Refused, Accepted}
 use Rattle.club_requests.specs.declared.requests.Caller.{Caller}
 use Rattle.club_requests.specs.declared.requests.Caller.TheVariants.{Officer, Member}
 use Rattle.club_requests.specs.Limits.{last_moment, most_games}
-use Rattle.club_requests.specs.Outcome.{Reply, member_added, event_added, accepted, map_outcome, by_officer}
+use Rattle.club_requests.specs.declared.refusals.Refusal.TheVariants.{UnknownGame}
+use Rattle.club_requests.specs.Outcome.{Reply, member_added, event_added, accepted, refused, map_outcome, by_officer}
 use Rattle.club_core.specs.Members as members
 use Rattle.club_core.specs.Members.{find_id, member_tests, same_member}
 use Rattle.club_core.specs.Events.{Terms, Event, event_kind, has_event_name, event_tests, same_event, declaring}
@@ -34,15 +36,16 @@ use Rattle.club_core.specs.Imports.{Import}
 use Rattle.club_core.specs.Legal.{MayEndBy}
 use Rattle.club_core.specs.Game.{Game, clocks_of, left_of, turn_of, last_position}
 use Rattle.club_core.specs.Step.{GameCommand, move, offer_draw, accept_draw, resign, claim_time, declare, has_offer}
-use Rattle.club_core.specs.Step.{is_over, is_overdue, ended, swept, game_step}
+use Rattle.club_core.specs.Step.{is_over, is_overdue, ended, swept, game_step, ruling_step}
 use Rattle.club_core.specs.State.{AnyGame, draughts, shogi, State, Command, add_member, add_event, seat, import_record}
 use Rattle.club_core.specs.State.{on_game, sweep, open_challenge, withdraw_challenge, answer_challenge, new_key}
-use Rattle.club_core.specs.State.{close_event}
+use Rattle.club_core.specs.State.{close_event, rule}
 use Rattle.club_core.specs.State.{Who, officer, takes}
 use Rattle.club_core.specs.State.{key_holder, Request, state_after, place, kind_at, key_of, game_under, seated_as}
 use Rattle.club_core.specs.State.{caller_of, caller_found, has_member_key, with_members, with_events, with_new_game}
 use Rattle.club_core.specs.State.{with_imported, with_game, with_challenge, challenge_game, with_answer, terms_at}
-use Rattle.club_core.specs.State.{swept_any, with_swept, import_as, step_game, step_command, step_by, next}
+use Rattle.club_core.specs.State.{rulings_of, swept_any, with_swept, import_as, step_game, step_ruling, step_command}
+use Rattle.club_core.specs.State.{step_by, next}
 use Rattle.club_core.specs.LegalState.{Each, IsGameOf, IsLegalIn, IsLegalChallenge, IsLegalState}
 use Rattle.club_core.proofs.Proved.{AreRules, not-some, checked-legal, legal-played, running-alone, legal-offered}
 use Rattle.club_core.proofs.Proved.{legal-ended}
@@ -51,11 +54,15 @@ use Rattle.club_laws.proofs.Accepts.{outcome-later, officer-later, officer-adds}
 use Rattle.club_laws.proofs.ArbiterSteps.{was-keyed, was-closed}
 use Rattle.club_laws.proofs.PutChallenges.{under-each}
 use Rattle.club_laws.proofs.Challenged.{was-opened, was-withdrawn, was-answered}
-use Rattle.club_laws.proofs.GameSteps.{IsLaterGame, Finds, Leaves, was-given, swept-game-later, is-next}
-use Rattle.club_laws.proofs.SeatSteps.{was-seated, seated-key, seated-pairing, fresh-key, nat_le-false}
+use Rattle.club_laws.proofs.GameSteps.{IsLaterGame, Finds, Leaves, was-given, swept-game-later, swept-rulings, is-next}
+use Rattle.club_laws.proofs.RuledGames.{ruled-legal}
+use Rattle.club_laws.proofs.RulingSteps.{was-ruled, was-ruled-later}
+use Rattle.club_laws.proofs.SeatSteps.{was-seated, seated-key, seated-pairing, seated-rulings, fresh-key}
+use Rattle.club_laws.proofs.SeatSteps.{nat_le-false}
 use Rattle.club_laws.proofs.Later.{IsLaterAny, key-later, game-later, game-added-later, close-later, opened-later}
 use Rattle.club_laws.proofs.Later.{withdrawn-later, answered-later, swept-any-later, swept-later}
-use Rattle.club_laws.proofs.AddedSteps.{not-false, since-within, IsLegalAt, legal-at, restanding, changed-game}
+use Rattle.club_laws.proofs.AddedSteps.{not-false, false-true, since-until, IsLegalAt, legal-at, restanding}
+use Rattle.club_laws.proofs.AddedSteps.{changed-game}
 use Rattle.club_laws.proofs.AddedSteps.{challenge-stays, members-added, events-added, any-seated, any-added, game-added}
 use Rattle.club_laws.proofs.AddedSteps.{challenge-put, game-changed, games-changed, found-some, member-keyed}
 use Rattle.club_laws.proofs.AddedSteps.{event-closed}
@@ -78,14 +85,16 @@ module _ {P M E T : Type 0} (laws : GameRules P M E T) (are_rules : AreRules law
       absurd cc
 
   ended-legal : (new : Game M) (end : OutsideEnd) → ended game end ≡ new → is_over laws game ≡ false
-      → MayEndBy laws terms (ended game end) end
+      → MayEndBy laws terms (ended game end) end → ((score : Score) → end ≡ Recorded score → ⊥)
       → (end ≡ Time → (clocks_of game terms).since + left_of (turn_of laws game) (clocks_of game terms) < moment)
       → IsLegalAt laws terms moment new
-  ended-legal new end is running may lost =
+  ended-legal new end is running may unrecorded lost =
       rw (← is)
       (record {
-        legal = legal-ended laws are_rules terms game own.legal end (not-some _ running) may;
+        legal = legal-ended laws are_rules terms game own.legal end (not-some _ running) may
+            (λ score at. absurd (unrecorded score at));
         entries = own.entries;
+        rulings = own.rulings;
         lost_by_time = λ at. lost (let both : Some end ≡ Some Time = at in cc);
       })
 
@@ -94,13 +103,14 @@ module _ {P M E T : Type 0} (laws : GameRules P M E T) (are_rules : AreRules law
       → IsLegalAt laws terms moment new
   side-legal side (move ply text) new reply found left =
       let (m, checked_is, stands, answer) = left in
-      let since = since-within terms.increment First game.entries _ moment start own.entries in
+      let since = since-until terms game moment start own.entries in
       rw (← stands)
       (record {
-        legal = legal-played laws are_rules terms game own.legal m moment (not-some _ found.0) since
+        legal = legal-played laws are_rules terms game own.legal m moment (not-some _ found.0) own.rulings since
             (ltb-false _ _ found.1.1.1.1.0)
             (checked-legal laws terms game moment (last_position laws game) _ m checked_is);
         entries = each-append (λ e. e.moment ≤ moment) game.entries _ own.entries (omega arith);
+        rulings = own.rulings;
         lost_by_time = λ is. absurd (not-timed found.0 is);
       })
   side-legal side (offer_draw ply) new reply found left =
@@ -109,16 +119,18 @@ module _ {P M E T : Type 0} (laws : GameRules P M E T) (are_rules : AreRules law
         legal = legal-offered laws are_rules terms game own.legal side ply (not-some _ found.0.0) found.1
             (is-next ply (length game.entries) found.0.1.0);
         entries = own.entries;
+        rulings = own.rulings;
         lost_by_time = λ is. absurd (not-timed found.0.0 is);
       })
   side-legal side (accept_draw ply) new reply found left =
-      ended-legal new _ left.0 found.0.0 (some-offer game.offer (other side) ply (not-false _ found.0.1.1.0)) (λ is. cc)
+      ended-legal new _ left.0 found.0.0 (some-offer game.offer (other side) ply (not-false _ found.0.1.1.0))
+      (λ score is. cc) (λ is. cc)
   side-legal side resign new reply found left =
-      ended-legal new _ left.0 found.0 tt (λ is. cc)
+      ended-legal new _ left.0 found.0 tt (λ score is. cc) (λ is. cc)
   side-legal side claim_time new reply found left =
-      ended-legal new _ left.0 found.0 tt (λ is. is-late _ _ moment (not-false _ found.1.1.0))
+      ended-legal new _ left.0 found.0 tt (λ score is. cc) (λ is. is-late _ _ moment (not-false _ found.1.1.0))
   side-legal side (declare ply) new reply found left =
-      ended-legal new _ left.0 found.0 (both-true _ _ (not-false _ found.1.1.1.0)) (λ is. cc)
+      ended-legal new _ left.0 found.0 (both-true _ _ (not-false _ found.1.1.1.0)) (λ score is. cc) (λ is. cc)
 
   -- a sweep ends a game where its side to move has lost by time
   swept-legal : IsLegalAt laws terms moment (swept laws terms game moment)
@@ -129,13 +141,14 @@ module _ {P M E T : Type 0} (laws : GameRules P M E T) (are_rules : AreRules law
       late-legal true late running is = own
       late-legal false false running is = own
       late-legal false true running is =
-          ended-legal (ended game Time) Time refl running tt (λ at. is-late _ _ moment is)
+          ended-legal (ended game Time) Time refl running tt (λ score at. cc) (λ at. is-late _ _ moment is)
 
 -- a command on a game of one kind
 module _ {DP DM DE DT SP SM SE ST P M E T : Type 0} (kinds : ClubRules DP DM DE DT SP SM SE ST)
     (laws : GameRules P M E T) (are_rules : AreRules laws) (kind : GameKind) (wrap : Game M → AnyGame DM SM)
     (wrap_legal : (t : State DM SM) (g : Game M) → IsGameOf laws kind t g → IsLegalIn kinds t (wrap g))
     (wrap_later : (g new : Game M) → IsLaterGame laws g new → IsLaterAny kinds (wrap g) (wrap new))
+    (wrap_rulings : (g : Game M) → rulings_of (wrap g) ≡ g.rulings)
     (s : State DM SM) (moment : ℕ) (rises : s.last ≤ moment) where
   caller-kept : (within : moment ≤ last_moment) (legal : IsLegalState kinds s) (id : ℕ) (who : Caller)
       (command : GameCommand) (game : Game M) → place s.games id ≡ Some (wrap game) → IsGameOf laws kind s game
@@ -155,10 +168,37 @@ module _ {DP DM DE DT SP SM SE ST P M E T : Type 0} (kinds : ClubRules DP DM DE 
       let later = game-later kinds s moment rises id (wrap game) (wrap new) at later_any in
       let start : game.start ≤ moment = omega (arith, of.start, rises) in
       game-changed kinds s moment rises within legal id (wrap game) (wrap new) at later_any
+      (λ none. wrap_rulings new ∙ (was.rulings ∙ sym (wrap_rulings game)))
       (wrap_legal _ new
       (changed-game kinds s _ later laws kind game new of was.later
       (side-legal laws are_rules terms game moment (legal-at laws kind s moment game of rises) start was.side command
       new reply was.found was.left)))))
+
+  -- a ruling of the arbiter on a game
+  ruling-kept : (within : moment ≤ last_moment) (legal : IsLegalState kinds s) (id number : ℕ) (ruling : Ruling)
+      (who : Caller) (game : Game M) → s.has_arbiter ≡ true → place s.games id ≡ Some (wrap game)
+      → IsGameOf laws kind s game
+      →
+      IsLegalState kinds
+      (state_after s
+      (by_officer who
+      (map_outcome (λ new. with_game s moment id (wrap new)) (ruling_step laws game number ruling moment))))
+  ruling-kept within legal id number ruling who game has at of =
+      officer-later (IsLegalState kinds) s (λ new. with_game s moment id (wrap new)) who
+      (ruling_step laws game number ruling moment) legal
+      (λ new reply is.
+      let was = was-ruled laws game number ruling moment new reply is in
+      let later_game = was-ruled-later laws game number ruling moment new reply was in
+      let later_any = wrap_later game new later_game in
+      let later = game-later kinds s moment rises id (wrap game) (wrap new) at later_any in
+      let start : game.start ≤ moment = omega (arith, of.start, rises) in
+      game-changed kinds s moment rises within legal id (wrap game) (wrap new) at later_any
+      (λ none. absurd (false-true s.has_arbiter none has))
+      (wrap_legal _ new
+      (changed-game kinds s _ later laws kind game new of later_game
+      (rw (← was.stands)
+      (ruled-legal laws of.event.terms game number moment ruling (legal-at laws kind s moment game of rises) start
+      was.tests)))))
 
   swept-kept : (game : Game M) (of : IsGameOf laws kind s game) → IsGameOf laws kind (with_swept kinds s moment)
       (swept laws (terms_at (place s.events game.event)) game moment)
@@ -227,7 +267,8 @@ module _ {DP DM DE DT SP SM SE ST : Type 0} (kinds : ClubRules DP DM DE DT SP SM
         let legal_then : IsLegalState kinds played =
         any-added kinds s moment rises within legal game
         (subst (λ k. IsLegalIn kinds played (seated_as k None (pairing_for c) moment)) (sym (ap kind_at at))
-        (challenge-seated played moment c e c.first at named (omega arith))) (nat_le-false _ _ room)
+        (challenge-seated played moment c e c.first at named (omega arith)))
+        (seated-rulings DM SM kind None (pairing_for c) moment) (nat_le-false _ _ room)
         (λ n g b at has same.
         let none : None ≡ Some b = sym (seated-key DM SM kind None (pairing_for c) moment) ∙ same in
         absurd cc) in
@@ -303,7 +344,8 @@ module _ {DP DM DE DT SP SM SE ST : Type 0} (kinds : ClubRules DP DM DE DT SP SM
         (rw at
         (any-seated kinds e.game _ (Some key) pairing moment e at refl is_first is_second was.apart was.named
         (omega arith)))
-        was.room (seated-key DM SM kind (Some key) pairing moment) (fresh-key s.games key was.fresh)
+        (seated-rulings DM SM kind (Some key) pairing moment) was.room
+        (seated-key DM SM kind (Some key) pairing moment) (fresh-key s.games key was.fresh)
 
 module _ {DP DM DE DT SP SM SE ST : Type 0} (kinds : ClubRules DP DM DE DT SP SM SE ST)
     (are_draughts : AreRules kinds.draughts) (are_shogi : AreRules kinds.shogi) (by_import : KeepsByImport kinds)
@@ -313,21 +355,44 @@ module _ {DP DM DE DT SP SM SE ST : Type 0} (kinds : ClubRules DP DM DE DT SP SM
       → IsLegalState kinds (state_after s (step_game kinds s moment id who command g))
   game-kept id who command None at = legal
   game-kept id who command (Some (draughts game)) at =
-      caller-kept kinds kinds.draughts are_draughts Draughts draughts (λ t g is. is) (λ g new is. (new, refl, is)) s
-      moment rises within legal id who command game at
+      caller-kept kinds kinds.draughts are_draughts Draughts draughts (λ t g is. is) (λ g new is. (new, refl, is))
+      (λ g. refl) s moment rises within legal id who command game at
       (in-place (IsLegalIn kinds s) s.games id (draughts game) legal.games at)
   game-kept id who command (Some (shogi game)) at =
-      caller-kept kinds kinds.shogi are_shogi Shogi shogi (λ t g is. is) (λ g new is. (new, refl, is)) s moment rises
-      within legal id who command game at (in-place (IsLegalIn kinds s) s.games id (shogi game) legal.games at)
+      caller-kept kinds kinds.shogi are_shogi Shogi shogi (λ t g is. is) (λ g new is. (new, refl, is)) (λ g. refl) s
+      moment rises within legal id who command game at
+      (in-place (IsLegalIn kinds s) s.games id (shogi game) legal.games at)
+
+  no-game-kept : (who : Caller) → IsLegalState kinds (state_after s (by_officer who (refused UnknownGame)))
+  no-game-kept Officer = legal
+  no-game-kept (Member id) = legal
+
+  rule-kept : (id number : ℕ) (ruling : Ruling) (who : Caller) (g : Option (AnyGame DM SM)) → s.has_arbiter ≡ true
+      → place s.games id ≡ g
+      → IsLegalState kinds (state_after s (by_officer who (step_ruling kinds s moment id number ruling g)))
+  rule-kept id number ruling who None has at = no-game-kept who
+  rule-kept id number ruling who (Some (draughts game)) has at =
+      ruling-kept kinds kinds.draughts are_draughts Draughts draughts (λ t g is. is) (λ g new is. (new, refl, is))
+      (λ g. refl) s moment rises within legal id number ruling who game has at
+      (in-place (IsLegalIn kinds s) s.games id (draughts game) legal.games at)
+  rule-kept id number ruling who (Some (shogi game)) has at =
+      ruling-kept kinds kinds.shogi are_shogi Shogi shogi (λ t g is. is) (λ g new is. (new, refl, is)) (λ g. refl) s
+      moment rises within legal id number ruling who game has at
+      (in-place (IsLegalIn kinds s) s.games id (shogi game) legal.games at)
 
   swept-any-kept : (g : AnyGame DM SM) → IsLegalIn kinds s g
       → IsLegalIn kinds (with_swept kinds s moment) (swept_any kinds s moment g)
   swept-any-kept (draughts game) of =
-      swept-kept kinds kinds.draughts are_draughts Draughts draughts (λ t g is. is) (λ g new is. (new, refl, is)) s
-      moment rises game of
+      swept-kept kinds kinds.draughts are_draughts Draughts draughts (λ t g is. is) (λ g new is. (new, refl, is))
+      (λ g. refl) s moment rises game of
   swept-any-kept (shogi game) of =
-      swept-kept kinds kinds.shogi are_shogi Shogi shogi (λ t g is. is) (λ g new is. (new, refl, is)) s moment rises
-      game of
+      swept-kept kinds kinds.shogi are_shogi Shogi shogi (λ t g is. is) (λ g new is. (new, refl, is)) (λ g. refl) s
+      moment rises game of
+
+  swept-any-rulings : (g : AnyGame DM SM) → rulings_of (swept_any kinds s moment g) ≡ rulings_of g
+  swept-any-rulings (draughts game) =
+      swept-rulings kinds.draughts (terms_at (place s.events game.event)) game moment
+  swept-any-rulings (shogi game) = swept-rulings kinds.shogi (terms_at (place s.events game.event)) game moment
 
   all-swept-kept : IsLegalState kinds (with_swept kinds s moment)
   all-swept-kept =
@@ -338,6 +403,7 @@ module _ {DP DM DE DT SP SM SE ST : Type 0} (kinds : ClubRules DP DM DE DT SP SM
         old,
         was,
         ap (λ x. key_of x) (sym is) ∙ key-later kinds old _ (swept-any-later kinds s moment old),
+        (λ none. ap (λ x. rulings_of x) (sym is) ∙ swept-any-rulings old),
         subst (IsLegalIn kinds (with_swept kinds s moment)) is (swept-any-kept old (legal.games n old was)),
       ))
 
@@ -383,6 +449,8 @@ module _ {DP DM DE DT SP SM SE ST : Type 0} (kinds : ClubRules DP DM DE DT SP SM
       officer-later (IsLegalState kinds) s (with_events s moment) who (close_step s.events event moment) legal
       (λ new reply is. event-closed kinds s moment rises within legal event new reply taken
       (was-closed s.events event moment new reply is))
+  command-kept who (rule id number ruling) taken is_caller =
+      rule-kept id number ruling who (place s.games id) taken refl
 
   by-kept : (who : Option Caller) (command : Command) → IsTrue (takes s command)
       → ((c : Caller) → who ≡ Some c → IsCallerIn s.members c)

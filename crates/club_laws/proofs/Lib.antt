@@ -17,5 +17,7 @@ pub mod Proved
 pub mod PutChallenges
 pub mod Repeats
 pub mod Room
+pub mod RuledGames
+pub mod RulingSteps
 pub mod SeatSteps
 pub mod Sound

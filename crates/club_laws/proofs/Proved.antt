@@ -13,3 +13,5 @@ pub use Rattle.club_laws.proofs.Lists.{set-got}
 pub use Rattle.club_laws.proofs.PutChallenges.{apart-put, got-put, key-under, under-at, under-each, under-found}
 pub use Rattle.club_laws.proofs.PutChallenges.{under-key, under-put}
 pub use Rattle.club_laws.proofs.Room.{le-true, room-for}
+pub use Rattle.club_laws.proofs.RulingSteps.{WasRuled, ruled-later, ruling-before-end, ruling-next, was-ruled}
+pub use Rattle.club_laws.proofs.SeatSteps.{nat_le-false}

@@ -1,7 +1,7 @@
 -- An accepted command that comes again from the one who gave it is repeated with the same answer.
 use Rattle.std.proofs.Common.{◌≡◌, ℕ, suc, ◌+◌, ◌-◌, ◌≤◌, List, [], ◌∷◌, ◌++◌, length, map, take, Option, Some, None}
-use Rattle.std.proofs.Common.{Result, Ok, Err, Bool, true, false, ◌&&◌, ◌||◌, refl, ap, sym, ◌∙◌, arith, length-append}
-use Rattle.std.proofs.Common.{add-one}
+use Rattle.std.proofs.Common.{Result, Ok, Err, Bool, true, false, ◌&&◌, ◌||◌, refl, ap, sym, subst, ◌∙◌, arith}
+use Rattle.std.proofs.Common.{add-one, length-append}
 use Rattle.std.specs.Prelude.{max, nat_lt, nat_le, ◌==◌, if◌then◌else◌, slice_set}
 use Rattle.std.specs.Cmp.{booleans_Decides}
 use Rattle.std.specs.Cmp.Derive.{both_true}
@@ -9,8 +9,9 @@ use Rattle.std.specs.Option.{option_map}
 use Rattle.std.proofs.Math.Seq.{take-length}
 use Rattle.std.proofs.lemmas.Bool.{eq-eqb, not-false}
 use Rattle.std.proofs.lemmas.Bool.Decides.{nat_tests}
-use Rattle.std.proofs.lemmas.List.{map-append, take-append-le}
+use Rattle.std.proofs.lemmas.List.{length-map, map-append, take-append-le}
 use Rattle.squares.specs.declared.sides.Side.{Side}
+use Rattle.squares.specs.declared.sides.Side.TheVariants.{First}
 use Rattle.squares.specs.Sides.{other, same_side}
 use Rattle.squares.specs.internal.Sides.{same_side-itself}
 use Rattle.club_rules.specs.declared.refusals.MoveRefusal.{MoveRefusal}
@@ -26,6 +27,7 @@ use Rattle.club_core.specs.declared.challenges.ChallengeState.TheVariants.{Withd
 use Rattle.club_requests.specs.declared.refusals.Refusal.{Refusal}
 use Rattle.club_requests.specs.declared.requests.Caller.{Caller}
 use Rattle.club_requests.specs.declared.requests.Caller.TheVariants.{Officer, Member}
+use Rattle.club_requests.specs.declared.rulings.Ruling.{Ruling}
 use Rattle.club_requests.specs.Outcome.{Reply, member_added, event_added, Outcome, accepted, repeated, map_outcome}
 use Rattle.club_requests.specs.Outcome.{by_officer, first_refusal, unless, unless_repeat}
 use Rattle.club_requests.specs.Limits.{is_member_key}
@@ -38,21 +40,24 @@ use Rattle.club_core.specs.Seats.{has_member_name, seat_step}
 use Rattle.club_core.specs.Challenges.{challenge_under, challenge_by, is_open, standing_as, asks_same, opening_step}
 use Rattle.club_core.specs.Challenges.{withdrawal_step, answer_step}
 use Rattle.club_core.specs.Imports.{Import}
-use Rattle.club_core.specs.Game.{Game, Entry, moves_of, last_position, turn_of, side_after, game_at}
+use Rattle.club_core.specs.Rulings.{GivenRuling}
+use Rattle.club_core.specs.Game.{Game, Entry, spend_all, opening_clocks, moves_of, last_position, turn_of, side_after}
+use Rattle.club_core.specs.Game.{game_at}
 use Rattle.club_core.specs.Step.{GameCommand, move, offer_draw, accept_draw, resign, claim_time, declare}
 use Rattle.club_core.specs.Step.{asked_ply, caller_side, is_over, is_next_ply, has_offer, played, offered, ended}
-use Rattle.club_core.specs.Step.{checked, checked_as}
+use Rattle.club_core.specs.Step.{checked, checked_as, ruled, repeat_of_ruling, ruling_step}
 use Rattle.club_core.specs.Step.{reads_as, repeats, side_step, game_step, repeat_of, reply_of_move, move_at}
 use Rattle.club_core.specs.State.{AnyGame, draughts, shogi, State, Command, add_member, add_event, seat, import_record}
 use Rattle.club_core.specs.State.{on_game, sweep, open_challenge, withdraw_challenge, answer_challenge, new_key}
-use Rattle.club_core.specs.State.{close_event}
+use Rattle.club_core.specs.State.{close_event, rule}
 use Rattle.club_core.specs.State.{Request, state_after, place, terms_at, is_key, game_under}
 use Rattle.club_core.specs.State.{seated_as, kind_at, caller_of, with_members}
 use Rattle.club_core.specs.State.{with_events}
 use Rattle.club_core.specs.State.{with_new_game, with_imported, with_game, with_challenge, challenge_game, with_answer}
-use Rattle.club_core.specs.State.{import_as, step_game, step_command, step_by, step, next, fold}
+use Rattle.club_core.specs.State.{import_as, step_game, step_ruling, step_command, step_by, step, next, fold}
 use Rattle.club_core.specs.LegalState.{IsGameOf, IsLegalIn, IsLegalState}
-use Rattle.club_core.proofs.Proved.{AreRules, turn-of-game, made-played, take-before, take-whole}
+use Rattle.club_core.proofs.Proved.{AreFrom, AreRules, turn-of-game, made-played, spend_all-more, take-before}
+use Rattle.club_core.proofs.Proved.{take-whole}
 use Rattle.club_laws.specs.Laws.{HasNextPly, StillRepeats, StillRepeatsOn, IsSentAgain}
 use Rattle.club_laws.proofs.Lists.{both-true, bytes_eq-same, find_id-new, get-append, place-set, put-at}
 use Rattle.club_laws.proofs.LegalSteps.{in-place}
@@ -66,6 +71,7 @@ use Rattle.club_laws.proofs.Later.{IsLater, IsLaterAny, later-trans, place-later
 use Rattle.club_laws.proofs.LaterParts.{IsEachLater, find-later, place-each-later, IsLaterMember, named-later}
 use Rattle.club_laws.proofs.LaterParts.{same-member-later, IsLaterEvent, event-named-later, same-event-later}
 use Rattle.club_laws.proofs.ArbiterSteps.{was-keyed, key-there, was-closed}
+use Rattle.club_laws.proofs.RulingSteps.{ruling-there, was-ruled}
 
 none-found : (f : ℕ → Reply) (o : Option ℕ) → option_map f o ≡ None → o ≡ None
 none-found f None is = refl
@@ -129,8 +135,10 @@ asks-again number first new c has_number has_sides asks = (
 -- the answer to a move shows nothing of later entries
 reply-same : {P M E T : Type 0} (laws : GameRules P M E T) (terms : Terms) (a b : Game M) (ply : ℕ) (m : M)
     → a.start ≡ b.start → take (ply - 1) a.entries ≡ take (ply - 1) b.entries → take ply a.entries ≡ take ply b.entries
+    → spend_all terms.increment a.rulings 0 First (map (λ e. e.moment) (take ply b.entries)) (opening_clocks b terms)
+    ≡ spend_all terms.increment b.rulings 0 First (map (λ e. e.moment) (take ply b.entries)) (opening_clocks b terms)
     → reply_of_move laws terms a ply m ≡ reply_of_move laws terms b ply m
-reply-same laws terms a b ply m start before after = rw (start, before, after) refl
+reply-same laws terms a b ply m start before after spent = rw (start, before, after, spent) refl
 
 take-then : {A : Type 0} (xs : List A) (x : A) (more : List A) → take (length xs) ((xs ++ x ∷ []) ++ more) ≡ xs
 take-then xs x more =
@@ -162,12 +170,15 @@ module _ {P M E T : Type 0} (laws : GameRules P M E T) where
 
 module _ {P M E T : Type 0} (laws : GameRules P M E T) (are_rules : AreRules laws) (terms : Terms) (game : Game M)
     (line : IsLegalLine laws laws.start (map (λ e. e.made) game.entries)) (moment again : ℕ) where
-  repeat-later : (m : M) (side : Side) (text : List ℕ) (more : List (Entry M)) (later : Game M)
-      → later.start ≡ game.start → later.entries ≡ (game.entries ++ record { made = m; moment = moment } ∷ []) ++ more
+  repeat-later : (m : M) (side : Side) (text : List ℕ) (more : List (Entry M)) (further : List GivenRuling)
+      (later : Game M) → later.start ≡ game.start
+      → later.entries ≡ (game.entries ++ record { made = m; moment = moment } ∷ []) ++ more
+      → later.rulings ≡ game.rulings ++ further
+      → AreFrom further (length (game.entries ++ record { made = m; moment = moment } ∷ []))
       → same_side side (turn_of laws game) ≡ true → laws.read_move (last_position laws game) text ≡ Ok m
       → repeat_of laws terms later (length game.entries + 1) (move_at later (length game.entries + 1)) side text
       ≡ Some (reply_of_move laws terms (played game m moment) (length game.entries + 1) m)
-  repeat-later m side text more later start entries turn read =
+  repeat-later m side text more further later start entries rulings from turn read =
       let e : Entry M = record { made = m; moment = moment } in
       let count : length game.entries + 1 - 1 ≡ length game.entries = omega arith in
       let before : take (length game.entries + 1 - 1) later.entries ≡ game.entries =
@@ -190,16 +201,30 @@ module _ {P M E T : Type 0} (laws : GameRules P M E T) (are_rules : AreRules law
       let side_is : same_side side (side_after (length game.entries + 1 - 1)) ≡ true =
       rw (count, ← turn-of-game laws are_rules.turn_passes are_rules.first_starts game line) turn in
       let passes : repeats laws terms later (length game.entries + 1) m side text ≡ true = both_true side_is reads in
+      let moments = map (λ x. x.moment) (game.entries ++ e ∷ []) in
+      let moments_are : map (λ x. x.moment) (take (length game.entries + 1) (game.entries ++ e ∷ [])) ≡ moments =
+      ap (map (λ x. x.moment)) played_after in
+      let many : length moments ≡ length (game.entries ++ e ∷ []) = simp length-map in
+      let spent : spend_all terms.increment later.rulings 0 First moments (opening_clocks game terms)
+      ≡ spend_all terms.increment game.rulings 0 First moments (opening_clocks game terms) =
+      rw rulings
+      (spend_all-more terms.increment game.rulings further 0 (length (game.entries ++ e ∷ [])) First moments
+      (opening_clocks game terms) (omega (arith, many)) from) in
       rw (at, passes)
       (ap Some
       (reply-same laws terms later (played game m moment) (length game.entries + 1) m start
-      (before ∙ sym played_before) (after ∙ sym played_after)))
+      (before ∙ sym played_before) (after ∙ sym played_after) (rw moments_are spent)))
 
-  -- an end from outside stays
+  -- an end from outside stays, with the moves and the offer
   stays-ended : (end : OutsideEnd) (new later : Game M) → ended game end ≡ new → IsLaterGame laws new later
-      → later ≡ ended game end
+      → (later.entries ≡ game.entries) × (later.offer ≡ game.offer) × (later.outside ≡ Some end)
   stays-ended end new later is since =
-      since.over (ap (is_over laws) (sym is) ∙ ended-over laws game end) ∙ sym is
+      let stays : later ≡ record new { rulings = later.rulings } =
+      (since.over (ap (is_over laws) (sym is) ∙ ended-over laws game end)).0 in (
+        ap (λ g. g.entries) stays ∙ ap (λ g. g.entries) (sym is),
+        ap (λ g. g.offer) stays ∙ ap (λ g. g.offer) (sym is),
+        ap (λ g. g.outside) stays ∙ ap (λ g. g.outside) (sym is),
+      )
 
   -- what an accepted command found and left lets it repeat: an offer until the next move
   side-again : (side : Side) (command : GameCommand) (new : Game M) (reply : Reply)
@@ -215,7 +240,8 @@ module _ {P M E T : Type 0} (laws : GameRules P M E T) (are_rules : AreRules law
       let from : IsLaterGame laws (played game m moment) later = rw stands since in
       let repeat : repeat_of laws terms later (length game.entries + 1) (move_at later (length game.entries + 1)) side
       text ≡ Some (reply_of_move laws terms (played game m moment) (length game.entries + 1) m) =
-      repeat-later m side text from.entries.0 later (ap (λ g. g.start) from.head) from.entries.1 turn read in
+      repeat-later m side text from.entries.0 from.rulings.0 later (ap (λ g. g.start) from.head) from.entries.1
+      from.rulings.1 from.rulings.2 turn read in
       rw (ply_is, repeat, answer) refl
   side-again side (offer_draw ply) new reply found left later since still =
       let next : ply ≡ length game.entries + 1 = is-next ply (length game.entries) found.0.1.0 in
@@ -227,17 +253,21 @@ module _ {P M E T : Type 0} (laws : GameRules P M E T) (are_rules : AreRules law
       rw (found.1, offer, own, left.1) refl
   side-again side (accept_draw ply) new reply found left later since still =
       let other's : has_offer game.offer (other side) ply ≡ true = not-false _ found.0.1.1.0 in
-      rw (stays-ended _ new later left.0 since, found.1, other's, left.1) refl
+      let (entries, offer, outside) = stays-ended _ new later left.0 since in
+      rw (entries, offer, outside, found.1, other's, left.1) refl
   side-again side resign new reply found left later since still =
       let turn : same_side side (turn_of laws game) ≡ true = not-false _ found.1.0 in
-      rw (stays-ended _ new later left.0 since, turn, left.1) refl
+      let (entries, offer, outside) = stays-ended _ new later left.0 since in
+      rw (entries, outside, turn, left.1) refl
   side-again side claim_time new reply found left later since still =
       let turn : same_side side (turn_of laws game) ≡ false = found.1.0 in
-      rw (stays-ended _ new later left.0 since, turn, left.1) refl
+      let (entries, offer, outside) = stays-ended _ new later left.0 since in
+      rw (entries, outside, turn, left.1) refl
   side-again side (declare ply) new reply found left later since still =
       let turn : same_side side (turn_of laws game) ≡ true = not-false _ found.1.1.0 in
       let next : is_next_ply laws game ply ≡ true = not-false _ found.1.0 in
-      rw (stays-ended _ new later left.0 since, turn, next, left.1) refl
+      let (entries, offer, outside) = stays-ended _ new later left.0 since in
+      rw (entries, outside, turn, next, left.1) refl
 
 -- the game of one kind that a command was accepted on, in a later state
 module _ {DP DM DE DT SP SM SE ST P M E T : Type 0} (kinds : ClubRules DP DM DE DT SP SM SE ST)
@@ -316,6 +346,31 @@ module _ {DP DM DE DT SP SM SE ST P M E T : Type 0} (kinds : ClubRules DP DM DE 
       reply there.was.found there.was.left later there.since
       (λ ply is_offer. next_of ply later (rw (is_offer, there.stands) at still)) in
       (later, there.stands, rw (terms_now, there.was.may, there.of_side, repeats) refl)
+
+-- a ruling that was given on a game of one kind is there in each later state
+module _ {DP DM DE DT SP SM SE ST P M E T : Type 0} (kinds : ClubRules DP DM DE DT SP SM SE ST)
+    (laws : GameRules P M E T) (wrap : Game M → AnyGame DM SM)
+    (unwrap : (g : Game M) (new : AnyGame DM SM) → IsLaterAny kinds (wrap g) new → (later : Game M)
+    × (new ≡ wrap later) × IsLaterGame laws g later) (s t : State DM SM) (moment id number : ℕ) (ruling : Ruling) where
+  ruled-again : (game : Game M) (after : State DM SM) (reply : Reply) → place s.games id ≡ Some (wrap game)
+      → map_outcome (λ new. with_game s moment id (wrap new)) (ruling_step laws game number ruling moment)
+      ≡ accepted after reply → IsLater kinds after t → (later : Game M)
+      × (place t.games id ≡ Some (wrap later))
+      × (repeat_of_ruling laws later number ruling ≡ Some reply)
+  ruled-again game after reply at is since =
+      let (new, step_is, after_is) = map-accepted (λ new. with_game s moment id (wrap new))
+      (ruling_step laws game number ruling moment) after reply is in
+      let was = was-ruled laws game number ruling moment new reply step_is in
+      let from : IsLater kinds (with_game s moment id (wrap new)) t = rw after_is since in
+      let (any, stands, any_later) = place-later kinds (with_game s moment id (wrap new)) t from id (wrap new)
+      (place-set s.games id (wrap game) (wrap new) at) in
+      let (later, any_is, is_later) = unwrap new any any_later in
+      let from_ruled : IsLaterGame laws (ruled game ruling moment) later =
+      subst (λ g. IsLaterGame laws g later) (sym was.stands) is_later in (
+        later,
+        stands ∙ ap Some any_is,
+        ruling-there laws game number ruling moment later was.tests from_ruled ∙ ap Some was.answer,
+      )
 
 module _ {DP DM DE DT SP SM SE ST : Type 0} (kinds : ClubRules DP DM DE DT SP SM SE ST) where
   -- an import that was accepted is repeated in each later state
@@ -472,6 +527,26 @@ module _ {DP DM DE DT SP SM SE ST : Type 0} (kinds : ClubRules DP DM DE DT SP SM
       (λ ply g is. is) s t moment again id who command game after reply at of is since still in
       rw stands so
 
+  -- a ruling has its number in every later state
+  ruling-again : (id number : ℕ) (ruling : Ruling) (who : Caller) (g : Option (AnyGame DM SM)) → place s.games id ≡ g
+      → by_officer who (step_ruling kinds s moment id number ruling g) ≡ accepted after reply
+      → by_officer who (step_ruling kinds t again id number ruling (place t.games id)) ≡ repeated reply
+  ruling-again id number ruling who None at is =
+      let by = officer-accepted who (step_ruling kinds s moment id number ruling None) after reply is in
+      let none = by.1 in
+      cc
+  ruling-again id number ruling who (Some (draughts game)) at is =
+      let by = officer-accepted who (step_ruling kinds s moment id number ruling (Some (draughts game))) after reply is
+      in
+      let (later, stands, repeats) = ruled-again kinds kinds.draughts draughts (λ g new is. is) s t moment id number
+      ruling game after reply at by.1 since in
+      rw (by.0, stands, repeats) refl
+  ruling-again id number ruling who (Some (shogi game)) at is =
+      let by = officer-accepted who (step_ruling kinds s moment id number ruling (Some (shogi game))) after reply is in
+      let (later, stands, repeats) = ruled-again kinds kinds.shogi shogi (λ g new is. is) s t moment id number ruling
+      game after reply at by.1 since in
+      rw (by.0, stands, repeats) refl
+
   command-again : (who : Caller) (command : Command) → StillRepeats t command → Again who command
   command-again who (add_member name key) still is = member-again who name key is
   command-again who (add_event event) still is = event-again who event is
@@ -489,6 +564,7 @@ module _ {DP DM DE DT SP SM SE ST : Type 0} (kinds : ClubRules DP DM DE DT SP SM
       answer-again challenger number id accept is
   command-again who (new_key name number key) still is = key-again who name number key is
   command-again who (close_event event) still is = close-again who event is
+  command-again who (rule id number ruling) still is = ruling-again id number ruling who (place s.games id) refl is
 
 module _ {DP DM DE DT SP SM SE ST : Type 0} (kinds : ClubRules DP DM DE DT SP SM SE ST) where
   -- what stands after an accepted request and those after it is later than what stood before

@@ -16,7 +16,7 @@ use Rattle.club_core.specs.Members.{find_id}
 use Rattle.club_core.specs.Events.{has_event_name}
 use Rattle.club_core.specs.Seats.{has_member_name, same_seats, are_distinct, seat_tests, seat_refusal, pair, seat_found}
 use Rattle.club_core.specs.State.{AnyGame, State, place, has_key, is_key, key_of, pairing_of, keyed_at, game_under}
-use Rattle.club_core.specs.State.{seated_as, with_imported}
+use Rattle.club_core.specs.State.{rulings_of, seated_as, with_imported}
 use Rattle.club_core.proofs.Proved.{none-holds, not-some}
 use Rattle.club_laws.proofs.Lists.{both-true, find_id-found, find_id-none, find_id-new}
 use Rattle.club_laws.proofs.Lists.{find_id-pointwise, at-last}
@@ -82,6 +82,11 @@ pub seated-pairing : (DM SM : Type 0) (kind : GameKind) (key : Option (List ℕ)
     → pairing_of {DM = DM} {SM = SM} (seated_as kind key pairing moment) ≡ pairing
 seated-pairing DM SM Draughts key pairing moment = refl
 seated-pairing DM SM Shogi key pairing moment = refl
+
+pub seated-rulings : (DM SM : Type 0) (kind : GameKind) (key : Option (List ℕ)) (pairing : Pairing) (moment : ℕ)
+    → rulings_of {DM = DM} {SM = SM} (seated_as kind key pairing moment) ≡ []
+seated-rulings DM SM Draughts key pairing moment = refl
+seated-rulings DM SM Shogi key pairing moment = refl
 
 module _ {DM SM : Type 0} where
   no-keyed : (games : List (AnyGame DM SM)) (id : Option ℕ)

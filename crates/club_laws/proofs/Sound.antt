@@ -2,11 +2,10 @@
 use Rattle.std.proofs.Common.{◌≡◌, ℕ, ◌≤◌, length, map, Option, Some, None, Ok, ap, arith}
 use Rattle.std.specs.Prelude.{IsTrue, IfSome}
 use Rattle.std.proofs.lemmas.List.{length-map}
-use Rattle.squares.specs.declared.sides.Side.TheVariants.{First}
 use Rattle.club_rules.specs.GameRules.{GameRules}
 use Rattle.club_core.specs.declared.rows.Asked.{Asked}
 use Rattle.club_core.specs.declared.rows.GameView.{GameView}
-use Rattle.club_requests.specs.Limits.{is_budget, is_increment, most_plies}
+use Rattle.club_requests.specs.Limits.{is_budget, is_increment, most_plies, most_rulings}
 use Rattle.club_core.specs.Events.{Terms}
 use Rattle.club_core.specs.Game.{Game, clocks_of, moves_of}
 use Rattle.club_core.specs.Legal.{IsLegalGame}
@@ -28,9 +27,8 @@ pub shown-sound : {R P M E T : Type 0} (laws : GameRules P M E T) (game : Game M
 shown-sound laws game view ply few budget increment legal shows shows_ply =
     let most : view.increment ≤ 2592000 = le-true view.increment 2592000 increment in
     let starts : view.budget ≤ 31536000 = budget-at-most view.budget budget in
-    let count : length (map (λ e. e.moment) game.entries) ≡ length game.entries = simp length-map in
-    let left = left-at-most view.increment First (map (λ e. e.moment) game.entries)
-    (record { left_first = view.budget; left_second = view.budget; since = game.start }) most in
+    let granted : length game.rulings ≤ most_rulings = legal.rulings.count in
+    let left = left-at-most game (terms_of view) most (λ n r at. (legal.rulings.each n r at).time) in
     let first : view.row.left_first ≡ (clocks_of game (terms_of view)).left_first =
     ap (λ c. c.left_first) shows.row.clocks in
     let second : view.row.left_second ≡ (clocks_of game (terms_of view)).left_second =
@@ -41,6 +39,8 @@ shown-sound laws game view ply few budget increment legal shows shows_ply =
       track = rw shows.track (line-grows laws few (moves_of game) (omega (arith, moves, plies)));
       asked = asked-sound laws (terms_of view) game legal ply view.asked shows_ply;
       plies = rw shows.row.plies legal.plies;
-      room_first = omega (arith, first, left.0, count, plies, most, starts);
-      room_second = omega (arith, second, left.1, count, plies, most, starts);
+      room_first = omega (arith, first, left.0, plies, granted, most, starts);
+      room_second = omega (arith, second, left.1, plies, granted, most, starts);
+      grant_first = omega (arith, first, left.0, plies, granted, starts);
+      grant_second = omega (arith, second, left.1, plies, granted, starts);
     }

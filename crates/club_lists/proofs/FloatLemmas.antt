@@ -6,7 +6,10 @@ use Rattle.serde_json.specs.Written.{has_float, items_have_float}
 use Rattle.squares.specs.Sides.{score_text}
 use Rattle.club_core.specs.Events.{Event}
 use Rattle.club_core.specs.Members.{Member}
+use Rattle.club_core.specs.Rulings.{GivenRuling}
 use Rattle.club_core.specs.declared.challenges.Challenge.{Challenge}
+use Rattle.club_requests.specs.declared.rulings.Ruling.{Ruling}
+use Rattle.club_requests.specs.declared.rulings.Ruling.TheVariants.{Grant, Award, Void}
 use Rattle.cross_tables.specs.declared.field.FieldLine.{FieldLine}
 use Rattle.club_rules.specs.EndName.{end_text}
 use Rattle.club_rules.specs.declared.names.EndName.{EndName}
@@ -24,6 +27,7 @@ use Rattle.club_lists.specs.Shows.{challenge_choices, challenge_data, event_data
 use Rattle.club_lists.specs.Shows.{is_of_event, is_other, is_own_refused, most_refused, more_data, my_games_data}
 use Rattle.club_lists.specs.Shows.{offerer, own_game_data, own_listed, received_listed, started}
 use Rattle.club_lists.specs.Rounds.{round_in}
+use Rattle.club_lists.specs.RulingTexts.{award_data, grant_data, ruling_data_of, rulings_data, rulings_from, void_data}
 use Rattle.club_lists.specs.Standings.{standing_data, standings_data, standings_from}
 use Rattle.club_lists.specs.Values.{number_or_null, text_or_null}
 use Rattle.std.specs.Prelude.{filter}
@@ -179,6 +183,25 @@ pub games_float : (members : List Member) (events : List Event) (games : List Ga
 unfolding games_data
 games_float members events games =
     rw (items_float (game_entry_data members events) (game_entry_float members events) games) refl
+
+-- ---- rulings
+
+ruling_float : (number : ℕ) (given : GivenRuling) (ruling : Ruling)
+    → has_float (ruling_data_of number given ruling) ≡ false
+unfolding grant_data award_data void_data
+ruling_float number given (Grant side seconds) = refl
+ruling_float number given (Award score) = refl
+ruling_float number given Void = refl
+
+rulings_from_float : (number : ℕ) (rulings : List GivenRuling)
+    → items_have_float (items_of (rulings_from number rulings)) ≡ false
+rulings_from_float number [] = refl
+rulings_from_float number (given ∷ rulings) =
+    rw (ruling_float number given given.ruling, rulings_from_float (suc number) rulings) refl
+
+pub rulings_float : (rulings : List GivenRuling) → has_float (rulings_data rulings) ≡ false
+unfolding rulings_data
+rulings_float rulings = rw (rulings_from_float 1 rulings) refl
 
 -- ---- the games of a member
 

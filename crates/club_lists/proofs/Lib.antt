@@ -8,4 +8,5 @@ mod OwnChallenges
 mod Picked
 pub mod Proved
 mod RoundLemmas
+mod RulingLemmas
 pub mod ValueLemmas

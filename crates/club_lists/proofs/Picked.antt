@@ -5,7 +5,7 @@ use Rattle.std.specs.Prelude.{filter, if◌then◌else◌}
 use Rattle.std.proofs.Math.Seq.{drop-cons}
 use Rattle.std.proofs.lemmas.List.{map-id}
 
-text_push : {A B : Type 0} (f : A → B) (xs : List A) (x : A) (ys : List B) → map f (xs ++ x ∷ []) ++ ys
+pub text_push : {A B : Type 0} (f : A → B) (xs : List A) (x : A) (ys : List B) → map f (xs ++ x ∷ []) ++ ys
     ≡ map f xs ++ (f x ∷ ys)
 text_push f [] x ys = refl
 text_push f (z ∷ xs) x ys = ap (λ l. f z ∷ l) (text_push f xs x ys)

@@ -6,7 +6,7 @@ use Rattle.squares.specs.declared.sides.Side.TheVariants.{First, Second}
 use Rattle.club_rules.specs.declared.names.GameKind.{GameKind}
 use Rattle.club_rules.specs.declared.names.GameKind.TheVariants.{Draughts, Shogi}
 use Rattle.club_lists.specs.Clock.{left_now}
-use Rattle.club_lists.specs.GameSummary.{Over, GameSummary}
+use Rattle.club_lists.specs.GameSummary.{Over, GameSummary, over_text}
 
 -- data of a printed game: its kind, the names of the event and the players, the diagram of the last position, and the
 -- moves in notation
@@ -40,9 +40,9 @@ turn_line moment told board =
     ++ (codes " " ++ (decimal (left_now moment First told) ++ (codes ", " ++ (board.second ++ (codes " "
     ++ (decimal (left_now moment Second told) ++ codes "\n"))))))))))
 
--- `ended NAME RESULT`
+-- `ended NAME RESULT`, without a result for a void game
 abbrev pub ended_line : Over → List ℕ
-ended_line over = codes "ended " ++ (over.end ++ (codes " " ++ (over.result ++ codes "\n")))
+ended_line over = codes "ended " ++ (over_text over ++ codes "\n")
 
 -- the line of the end, or of the side to move and the clocks while the game is running
 abbrev pub standing_line : ℕ → GameSummary → Board → Option Over → List ℕ

@@ -1,8 +1,9 @@
 -- The ended games of a member, as JSON.
-use Rattle.std.specs.Prelude.{ℕ, ◌&&◌, List, map, Bool, Option, Some, None, codes, if◌then◌else◌}
+use Rattle.std.specs.Prelude.{ℕ, ◌&&◌, ◌||◌, List, map, Bool, Option, Some, None, codes, if◌then◌else◌}
 use Rattle.serde_json.specs.Data.{Data, string, object, member, no_members}
 use Rattle.serde_json.specs.Written.{compact_text}
 use Rattle.club_requests.specs.OutsideEnd.{is_outside}
+use Rattle.club_requests.specs.Rulings.{is_verdict}
 use Rattle.club_core.specs.Events.{Event}
 use Rattle.club_core.specs.Members.{Member}
 use Rattle.club_lists.specs.GameSummary.{GameSummary, Over, end_of, is_over, result_of}
@@ -18,7 +19,7 @@ most_ended = 200
 -- timestamp of an end: that of the last move if this move made it, otherwise it is not known
 abbrev pub moment_of : ℕ → Option Over → Option ℕ
 moment_of since None = None
-moment_of since (Some over) = if is_outside over.end then None else Some since
+moment_of since (Some over) = if is_outside over.end || is_verdict over.end then None else Some since
 
 -- the timestamp at which the game ended, if it is known
 abbrev pub end_moment : GameSummary → Option ℕ

@@ -14,6 +14,8 @@ pub mod Listing
 pub mod Newest
 pub mod Page
 pub mod Rounds
+pub mod RulingOrders
+pub mod RulingTexts
 pub mod ShownViews
 pub mod Shows
 pub mod Standings

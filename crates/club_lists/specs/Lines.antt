@@ -10,7 +10,7 @@ use Rattle.club_core.specs.Members.{Member}
 use Rattle.club_core.specs.State.{kind_at, place}
 use Rattle.club_lists.specs.Dates.{IsUntil}
 use Rattle.club_lists.specs.Listing.{event_of, first_name, second_name}
-use Rattle.club_lists.specs.GameSummary.{Over, GameSummary, deadline, is_over}
+use Rattle.club_lists.specs.GameSummary.{Over, GameSummary, deadline, is_over, over_text}
 
 -- the texts of the elements, concatenated; ids count up from this one
 abbrev pub numbered : {A : Type 0} → (ℕ → A → List ℕ) → ℕ → List A → List ℕ
@@ -89,9 +89,9 @@ abbrev pub player_name : List Member → Side → GameSummary → List ℕ
 player_name members First told = first_name members told
 player_name members Second told = second_name members told
 
--- `end NAME RESULT`, or `turn NAME until DEADLINE`
+-- `end NAME RESULT`, without a result for a void game, or `turn NAME until DEADLINE`
 abbrev pub IsGameState : List Member → GameSummary → Option Over → List ℕ → Type 0
-IsGameState members told (Some over) text = text ≡ codes "end " ++ (over.end ++ (codes " " ++ over.result))
+IsGameState members told (Some over) text = text ≡ codes "end " ++ over_text over
 IsGameState members told None text = (second : List ℕ) × IsUntil (deadline told) second
     × (text ≡ codes "turn " ++ (player_name members told.turn told ++ (codes " until " ++ second)))
 

@@ -1,5 +1,5 @@
 -- The standings of an event, as JSON.
-use Rattle.std.specs.Prelude.{ℕ, suc, ◌==◌, List, [], ◌∷◌, map, filter, codes}
+use Rattle.std.specs.Prelude.{ℕ, suc, ◌==◌, ◌&&◌, not, Bool, List, [], ◌∷◌, map, filter, codes}
 use Rattle.serde_json.specs.Data.{Data, string, object, member, no_members}
 use Rattle.serde_json.specs.Written.{compact_text}
 use Rattle.cross_tables.specs.declared.field.EventGame.{EventGame}
@@ -8,7 +8,7 @@ use Rattle.cross_tables.specs.Totals.{games}
 use Rattle.club_core.specs.Events.{Event, event_kind}
 use Rattle.club_core.specs.Members.{Member}
 use Rattle.club_core.specs.State.{place}
-use Rattle.club_lists.specs.GameSummary.{GameSummary, is_over}
+use Rattle.club_lists.specs.GameSummary.{GameSummary, is_over, is_void}
 use Rattle.club_lists.specs.Lines.{game_name}
 use Rattle.club_lists.specs.Listing.{member_name}
 use Rattle.club_lists.specs.Values.{array_of, number_data}
@@ -17,9 +17,13 @@ use Rattle.club_lists.specs.Values.{array_of, number_data}
 abbrev pub event_game : GameSummary → EventGame
 event_game told = record { first = told.first; second = told.second; is_over = is_over told }
 
--- the games of the event with this id, in their order
+-- the game is one of the event with this id, and not void
+abbrev pub counts_in : ℕ → GameSummary → Bool
+counts_in event told = told.event == event && not (is_void told)
+
+-- the games of the event with this id that are not void, in their order
 abbrev pub games_in_event : ℕ → List GameSummary → List EventGame
-games_in_event event games = map event_game (filter (λ told. told.event == event) games)
+games_in_event event games = map event_game (filter (counts_in event) games)
 
 -- the object of a line at a place, from 1
 unfoldable pub standing_data : List Member → ℕ → FieldLine → Data

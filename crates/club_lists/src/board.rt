@@ -81,9 +81,8 @@ fn standing_line(
 {
     match &game.over {
         Some(over) => {
-            let end = over.end.as_str();
-            let score = over.result.as_str();
-            format!(in alloc; "ended {end} {score}\n")
+            let end = over.text(alloc)?;
+            format!(in alloc; "ended {end}\n")
         }
         None => turn_line(alloc, game, view, moment),
     }

@@ -14,7 +14,7 @@ use crate::listing::{event_name, member_name};
 use crate::member_json::{end_value, is_player, result_value};
 use clocks::Moment;
 use club_core::{Event, Member};
-use club_requests::is_outside;
+use club_requests::{is_outside, is_verdict};
 use serde_json::{Value, json};
 use std::alloc::{AllocError, Global};
 
@@ -27,7 +27,11 @@ fn end_moment(game: &GameEntry) -> Value
 {
     match &game.over {
         Some(over) => {
-            if is_outside(over.end.as_str()) {
+            let end = over.end.as_str();
+            if is_outside(end) {
+                return Value::Null;
+            }
+            if is_verdict(end) {
                 return Value::Null;
             }
             Value::from(game.since.seconds())

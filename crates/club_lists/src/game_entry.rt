@@ -1,20 +1,51 @@
 //! The summary of a game, without its moves.
 
-ghost use Rattle.std.specs.Prelude.{◌≡◌, ◌≤◌, ◌↔◌, IsSome, IfSome};
+ghost use Rattle.std.specs.Prelude.{◌≡◌, ◌≤◌, ◌↔◌, IfOk, IsSome, IfSome, is_some, not, string_bytes};
 ghost use Rattle.club_requests.specs.Limits.{last_moment};
-ghost use Rattle.club_lists.specs.GameSummary.{deadline, is_late, is_over, left_in};
-ghost use Rattle.club_lists.specs.internal.SummaryViews.{summary_of};
+ghost use Rattle.club_lists.specs.GameSummary.{deadline, is_late, is_over, is_void, left_in, over_text};
+ghost use Rattle.club_lists.specs.internal.SummaryViews.{over_by, summary_of};
 
 use clocks::{Clock, Moment};
 use squares::Side;
+use std::alloc::{AllocError, Global};
 
 /// The end of a game.
 #[derive(Debug, Drop)]
 pub struct GameOver {
     /// The name of the end.
     pub end: String,
-    /// The scores of First and Second, as in `2-0`.
-    pub result: String,
+    /// The scores of First and Second, as in `2-0`. `None` for a void game.
+    pub result: Option<String>,
+}
+
+impl GameOver {
+    /// The name of the end, and the scores behind it unless the game is void.
+    ///
+    /// # Errors
+    ///
+    /// `AllocError` if out of memory.
+    pub(crate) fn text(&self, alloc: Global) -> Result<String, AllocError>
+        ensures { IfOk result (λ text. string_bytes text ≡ over_text (over_by self.now)) }
+    {
+        let end = self.end.as_str();
+        match &self.result {
+            Some(result) => {
+                let result = result.as_str();
+                format!(in alloc; "{end} {result}")
+            }
+            None => String::from_str(alloc, end),
+        }
+    }
+
+    // Whether the game does not count.
+    fn is_void(&self) -> bool
+        ensures { result ≡ not (is_some (over_by self.now).result) }
+    {
+        match &self.result {
+            Some(_) => false,
+            None => true,
+        }
+    }
 }
 
 /// The summary of a game, without its moves. The event and the players are ids.
@@ -82,6 +113,16 @@ impl GameEntry {
         ensures { result ≡ is_over (summary_of self.now) }
     {
         self.over.is_some()
+    }
+
+    /// Whether the game has ended and does not count.
+    pub fn is_void(&self) -> bool
+        ensures { result ≡ is_void (summary_of self.now) }
+    {
+        match &self.over {
+            Some(over) => over.is_void(),
+            None => false,
+        }
     }
 
     /// Whether the game is running and the side to move has exceeded the time limit at this timestamp.

@@ -13,6 +13,10 @@
 //! - The lines of members, events, games and challenges are exactly the bytes that `specs/Lines` and
 //!   `specs/ChallengeLines` give. `members_json`, `events_json`, `games_json`, `challenges_json`: their JSON is exactly
 //!   the text that `specs/ClubJson` gives. Both of games list the same games in the same order (`listed_games`).
+//! - `rulings_text`, `rulings_json`: the rulings on a game, with numbers from 1, are exactly the lines and the JSON of
+//!   `specs/RulingTexts`.
+//! - `is_ruled`, `push_ruling_orders`, `bulk_refusal`: the rulings on many running games are exactly the lines of a
+//!   batch that `specs/RulingOrders` gives.
 //! - A deadline is the last second in which the move is in time, or `never` or null after the last timestamp
 //!   (`specs/Clock`).
 #![tactic(auto)]
@@ -34,6 +38,8 @@ pub mod member_json;
 pub mod mine;
 pub mod page;
 pub mod rounds;
+pub mod ruling_orders;
+pub mod ruling_texts;
 pub mod shown;
 pub mod standings;
 mod values;
@@ -55,5 +61,7 @@ pub use member_json::{
 pub use mine::{MemberGames, my_games_json};
 pub use page::{GamePage, page_text};
 pub use rounds::{keys_tell_rounds, round_of};
+pub use ruling_orders::{bulk_refusal, is_ruled, push_ruling_orders};
+pub use ruling_texts::{rulings_json, rulings_text};
 pub use shown::{GameShown, end_name};
 pub use standings::{games_in_event, standings_json};

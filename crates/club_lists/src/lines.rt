@@ -228,9 +228,8 @@ fn stands_as(alloc: Global, members: &[Member], game: &GameEntry) -> Result<Stri
 {
     match &game.over {
         Some(over) => {
-            let end = over.end.as_str();
-            let score = over.result.as_str();
-            format!(in alloc; "end {end} {score}")
+            let end = over.text(alloc)?;
+            format!(in alloc; "end {end}")
         }
         None => {
             let name = turn_name(members, game);

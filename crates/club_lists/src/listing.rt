@@ -101,7 +101,8 @@ pub fn has_event(events: &[Event], name: &str) -> bool
     events.iter().any(|event| event.name.as_str() == name)
 }
 
-fn is_member(members: &[Member], name: &str) -> bool
+/// Whether a member has this name.
+pub(crate) fn is_member(members: &[Member], name: &str) -> bool
     ensures { result ≡ list_any (has_member_name name.now) (members_of members.now) }
 {
     members.iter().any(|member| member.name.as_str() == name)

@@ -62,12 +62,12 @@ pub(crate) fn end_value(alloc: Global, game: &GameEntry) -> Result<Value, AllocE
     }
 }
 
-/// The result of a game, or null.
+/// The result of a game, or null if it is running or void.
 pub(crate) fn result_value(alloc: Global, game: &GameEntry) -> Result<Value, AllocError>
     ensures { IfOk result (λ value. view value ≡ text_or_null (result_of (summary_of game.now))) }
 {
     match &game.over {
-        Some(over) => Value::try_from_str(alloc, over.result.as_str()),
+        Some(over) => text_or_null(alloc, &over.result),
         None => Ok(Value::Null),
     }
 }

@@ -20,7 +20,7 @@ pub struct GameShown {
     /// The name of the member who has made a draw offer that is still valid.
     pub offer: Option<String>,
     pub end: Option<GameEnd<EndName>>,
-    /// `None` while the game is running.
+    /// `None` while the game is running, and for a void game.
     pub result: Option<Score>,
 }
 
@@ -30,6 +30,7 @@ pub fn end_name(end: GameEnd<EndName>) -> &'static str
 {
     match end {
         GameEnd::Rule(end) => end.name(),
+        GameEnd::Verdict(verdict) => verdict.name(),
         GameEnd::Outside(end) => end.name(),
     }
 }

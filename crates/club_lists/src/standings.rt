@@ -3,7 +3,7 @@
 ghost use Rattle.std.specs.Prelude.{◌≡◌, IfOk, map, string_bytes};
 ghost use Rattle.serde_json.specs.View.{view};
 ghost use Rattle.club_core.specs.internal.Answer.{events_of, members_of};
-ghost use Rattle.club_lists.specs.Standings.{event_game, games_in_event, standing_data, standings_from};
+ghost use Rattle.club_lists.specs.Standings.{counts_in, event_game, games_in_event, standing_data, standings_from};
 ghost use Rattle.club_lists.specs.Standings.{standings_data, standings_json};
 ghost use Rattle.club_lists.specs.internal.SummaryViews.{summaries_of, summary_of};
 
@@ -27,7 +27,17 @@ fn event_game(game: &GameEntry) -> EventGame
     }
 }
 
-/// The games of the event with this id, in their order.
+// Whether the game is one of the event with this id, and not void.
+fn counts_in(event: u32, game: &GameEntry) -> bool
+    ensures { result ≡ counts_in event (summary_of game.now) }
+{
+    if game.event != event {
+        return false;
+    }
+    !game.is_void()
+}
+
+/// The games of the event with this id that are not void, in their order.
 ///
 /// # Errors
 ///
@@ -41,7 +51,7 @@ pub fn games_in_event(
 {
     let mut found = Vec::new(alloc);
     for game in games {
-        if game.event != event {
+        if !counts_in(event, game) {
             continue;
         }
         found.push(event_game(game))?;

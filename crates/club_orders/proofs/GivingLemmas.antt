@@ -4,7 +4,6 @@ use Rattle.std.proofs.Common.{ap, subst, ◌∙◌}
 use Rattle.std.specs.Prelude.{IfSome, pos}
 use Rattle.club_requests.specs.declared.refusals.Refusal.{Refusal}
 use Rattle.club_requests.specs.declared.questions.Question.{Question}
-use Rattle.club_answers.specs.AnswerTexts.{HasWrittenAnswer}
 use Rattle.club_rows.specs.Club.{ClubState}
 use Rattle.store.specs.declared.fault.AskFault.TheVariants as ask_fault
 use Rattle.store.specs.declared.fault.StoreFault.{StoreFault}
@@ -16,19 +15,17 @@ use Rattle.cli.specs.declared.batches.Batch.{Batch}
 use Rattle.club_orders.specs.declared.batched.BatchResults.{BatchResults}
 use Rattle.club_orders.specs.Batches.{AreAsked, AreGiven, IsAsked}
 
-pub asked_of : (s : ClubState) (moment : ℕ) (question : Question) (before now : Option (List ℕ))
-    (refusal : Option Refusal) → HasWrittenAnswer s moment question refusal before now → IsAsked s moment question refusal
-asked_of s moment question before now None shown = (shown.0, shown.1)
-asked_of s moment question before now (Some why) shown = shown.0
-
--- the fault of a club that was open
-pub of_club : (fault : StoreFault) → (ask_fault.Club fault ≡ ask_fault.Output)
+-- the fault of a query on a club that was open
+pub of_ask : {A B : Type 0} (fault : StoreFault) → (ask_fault.Club fault ≡ ask_fault.Output)
+    ⊎ ((ask_fault.Club fault ≡ ask_fault.Club (store_fault.Schema (pos 2)))
     ⊎ ((ask_fault.Club fault ≡ ask_fault.Club store_fault.Store)
-    ⊎ (ask_fault.Club fault ≡ ask_fault.Club store_fault.Memory))
-    → (fault ≡ store_fault.Store) ⊎ (fault ≡ store_fault.Memory)
-of_club fault (inl e) = absurd (let x = e in cc)
-of_club fault (inr (inl e)) = inl (let x = e in cc)
-of_club fault (inr (inr e)) = inr (let x = e in cc)
+    ⊎ (ask_fault.Club fault ≡ ask_fault.Club store_fault.Memory)))
+    → (ask_fault.Club fault ≡ ask_fault.Club (store_fault.Schema (pos 2)) → A × B)
+    → (fault ≡ store_fault.Store) ⊎ ((fault ≡ store_fault.Memory) ⊎ ((fault ≡ store_fault.Schema (pos 2)) × A × B))
+of_ask fault (inl e) why = absurd (let x = e in cc)
+of_ask fault (inr (inl e)) why = let (one, other) = why e in inr (inr (let x = e in cc, one, other))
+of_ask fault (inr (inr (inl e))) why = inl (let x = e in cc)
+of_ask fault (inr (inr (inr e))) why = inr (inl (let x = e in cc))
 
 -- whatever is told of the questions that are left holds of all
 abbrev pub AskedOn : ClubState → (moment : ℕ) → (all left : List Question) → Type 0

@@ -29,6 +29,9 @@ pub not_taken : (needs has : Bool) → (not needs || has) ≡ false → (needs �
 not_taken true has is = (refl, is)
 not_taken false has is = absurd (true≢false is)
 
+pub untaken : (needs has : Bool) → needs ≡ true → has ≡ false → (not needs || has) ≡ false
+untaken needs has is none = rw (is, none) refl
+
 -- an order that is taken needs no arbiter, or there is one
 pub taken_alike : (needs has : Bool) → (not needs || has) ≡ true → needs ≡ true → has ≡ false → ⊥
 taken_alike true has took needs none = absurd (true≢false (sym took ∙ none))

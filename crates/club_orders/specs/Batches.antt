@@ -20,7 +20,7 @@ use Rattle.store.specs.FaultText.{store_fault_text}
 use Rattle.store.specs.Histories.{HistoryStep, session_of}
 use Rattle.store.specs.Runs.{club_outcomes}
 use Rattle.cli.specs.declared.batches.Batch.{Batch}
-use Rattle.club_orders.specs.Recorded.{IfRecorded, takes_all}
+use Rattle.club_orders.specs.Recorded.{IfRecorded, IsUnasked, takes_all}
 use Rattle.club_orders.specs.declared.batched.BatchResults.{BatchResults}
 use Rattle.club_orders.specs.declared.report.Report.{Report}
 use Rattle.club_orders.specs.declared.report.Report.TheVariants as report
@@ -118,8 +118,8 @@ pub record AreGiven (s : ClubState) (batch : Batch) (batched : BatchResults) : T
   pub whole : batched.fault ≡ None → length batched.outcomes.items ≡ length batch.requests.items
   pub fault : IfSome batched.fault (λ fault. (fault ≡ store_fault.Store) ⊎ (fault ≡ store_fault.Memory))
 
--- No query is refused and the requests were executed; or one is refused and none was; or a call failed or memory ran
--- out before the first request.
+-- No query is refused and the requests were executed; or one is refused and none was; or a call failed, memory ran out
+-- or the club has no tables for a query before the first request.
 abbrev pub AnswersRequests : ClubState → (moment : ℕ) → Batch → Report → Type 0
 AnswersRequests s moment batch (report.Batched batched) =
     AreAsked s moment batch.questions.items None × AreGiven s batch batched
@@ -127,7 +127,7 @@ AnswersRequests s moment batch (report.Answered (outcome.Refused refusal)) =
     AreAsked s moment batch.questions.items (Some refusal)
 AnswersRequests s moment batch (report.Unopened fault) = (fault ≡ open_fault.Store) ⊎ (fault ≡ open_fault.Memory)
 AnswersRequests s moment batch (report.StoreFailed fault) =
-    (fault ≡ store_fault.Store) ⊎ (fault ≡ store_fault.Memory)
+    (fault ≡ store_fault.Store) ⊎ ((fault ≡ store_fault.Memory) ⊎ IsUnasked s batch.questions.items fault)
 AnswersRequests s moment batch _ = ⊥
 
 -- The batch is answered so. If the club cannot record one of its requests, the fault says so, and nothing is executed.

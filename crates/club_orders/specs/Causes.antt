@@ -9,6 +9,8 @@ use Rattle.club_requests.specs.declared.requests.AddEvent.{AddEvent}
 use Rattle.club_requests.specs.declared.requests.Seat.{Seat}
 use Rattle.club_requests.specs.declared.requests.Import.{Import}
 use Rattle.club_requests.specs.declared.requests.NewKey.{NewKey}
+use Rattle.club_requests.specs.declared.requests.Rule.{Rule}
+use Rattle.club_requests.specs.Rulings.{has_grant_time}
 use Rattle.club_requests.specs.declared.requests.GameCommand.{GameCommand}
 use Rattle.club_requests.specs.declared.requests.GameCommand.TheVariants.{Move}
 use Rattle.club_requests.specs.declared.requests.Command.{Command}
@@ -17,7 +19,7 @@ use Rattle.club_orders.specs.declared.causes.Explanation.{Explanation}
 use Rattle.club_orders.specs.declared.causes.Explanation.TheVariants as explanation
 use Rattle.club_orders.specs.declared.causes.WrongValue.{WrongValue}
 use Rattle.club_orders.specs.declared.causes.WrongValue.TheVariants.{MemberName, MemberKey, KeyOwner, EventName}
-use Rattle.club_orders.specs.declared.causes.WrongValue.TheVariants.{Budget}
+use Rattle.club_orders.specs.declared.causes.WrongValue.TheVariants.{Budget, GrantTime, RulingNumber}
 use Rattle.club_orders.specs.declared.causes.WrongValue.TheVariants.{Increment, GameKey, SamePlayer, UnknownPlayer}
 use Rattle.club_orders.specs.declared.causes.WrongValue.TheVariants.{RecordLength, NoPart, PlayerOrRecord, MoveText}
 
@@ -30,6 +32,10 @@ value_of_member m = if is_name (string_bytes m.name) then MemberKey else MemberN
 -- the wrong value of a member's new key: the key, or the member or the number
 abbrev pub value_of_key : NewKey → WrongValue
 value_of_key k = if is_member_key (string_bytes k.key) then KeyOwner else MemberKey
+
+-- the wrong value of a ruling: the time that it grants, or its number
+abbrev pub value_of_ruling : Rule → WrongValue
+value_of_ruling r = if has_grant_time r.ruling then RulingNumber else GrantTime
 
 -- the wrong value of a new event: the name, the budget or the increment
 abbrev pub value_of_event : AddEvent → WrongValue
@@ -69,6 +75,7 @@ wrong_value (command.Seat c) = Some (value_of_seat c)
 wrong_value (command.Import c) = Some (value_of_import c)
 wrong_value (command.OnGame c) = value_on_game c.command
 wrong_value (command.NewKey c) = Some (value_of_key c)
+wrong_value (command.Rule c) = Some (value_of_ruling c)
 wrong_value _ = None
 
 -- the explanation of the wrong value, or of the refusal 65 if the command does not show one

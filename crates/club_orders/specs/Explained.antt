@@ -3,7 +3,7 @@ use Rattle.std.specs.Prelude.{ℕ, ◌==◌, List, [], ◌∷◌, ◌++◌, take
 use Rattle.std.specs.Prelude.{if◌then◌else◌, pos, negsuc, ℤ, codes, decimal}
 use Rattle.std.specs.Io.KnownBytes.{Appends}
 use Rattle.club_requests.specs.declared.questions.Question.{Question}
-use Rattle.club_requests.specs.declared.questions.Question.TheVariants.{Games, GamesJson}
+use Rattle.club_requests.specs.declared.questions.Question.TheVariants.{Games, GamesJson, RulingOrders}
 use Rattle.club_requests.specs.declared.requests.Command.{Command}
 use Rattle.club_requests.specs.declared.requests.Command.TheVariants.{NewKey}
 use Rattle.club_requests.specs.declared.requests.Request.{Request}
@@ -24,7 +24,7 @@ use Rattle.club_orders.specs.declared.causes.Explanation.TheVariants as explanat
 use Rattle.club_orders.specs.declared.causes.UnreadObject.{UnreadObject}
 use Rattle.club_orders.specs.declared.causes.ExplainedFault.{ExplainedFault}
 use Rattle.club_orders.specs.declared.causes.ExplainedFault.TheVariants as fault
-use Rattle.club_orders.specs.declared.causes.WrongValue.TheVariants.{ListedMember, SeatedMember, SweepLimit}
+use Rattle.club_orders.specs.declared.causes.WrongValue.TheVariants.{ListedMember, UnknownMember, SweepLimit}
 use Rattle.club_orders.specs.declared.batched.BatchResults.{BatchResults}
 use Rattle.club_orders.specs.declared.report.Report.{Report}
 use Rattle.club_orders.specs.declared.report.Report.TheVariants.{Ready, Sound, Answered, Shown, OutputFailed}
@@ -41,22 +41,23 @@ abbrev pub games_explained : Refusal → Explanation
 games_explained BadValue = explanation.Value ListedMember
 games_explained refusal = explanation.Refusal refusal
 
+-- a member who retires, or one of a round robin, does not exist
+abbrev pub member_explained : Refusal → Explanation
+member_explained BadValue = explanation.Value UnknownMember
+member_explained refusal = explanation.Refusal refusal
+
 -- the explanation of a refused query
 abbrev pub question_explained : Question → Refusal → Explanation
 question_explained (Games listing) refusal = games_explained refusal
 question_explained (GamesJson listing) refusal = games_explained refusal
+question_explained (RulingOrders bulk) refusal = member_explained refusal
 question_explained question refusal = explanation.Refusal refusal
 
--- a query of a batch asks for a member of a round robin, who does not exist
-abbrev pub seats_explained : Refusal → Explanation
-seats_explained BadValue = explanation.Value SeatedMember
-seats_explained refusal = explanation.Refusal refusal
-
--- the explanation of a refused task
+-- the explanation of a refused task; a query of a batch asks for a member of a round robin
 abbrev pub task_explained : Task → Refusal → Explanation
 task_explained (task.Request command) refusal = refusal_explained refusal command
 task_explained (task.Ask question) refusal = question_explained question refusal
-task_explained (task.Batch batch) refusal = seats_explained refusal
+task_explained (task.Batch batch) refusal = member_explained refusal
 task_explained _ refusal = explanation.Refusal refusal
 
 -- the input that a command lacks: a new key, or a record

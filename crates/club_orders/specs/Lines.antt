@@ -40,8 +40,9 @@ use Rattle.club_orders.specs.declared.texts.TheConstants.{NOT_OPENED, STORE, REO
 use Rattle.club_orders.specs.declared.texts.TheConstants.{MEMORY, NO_CLOCK, NO_RECORD, NO_PORT, NO_OUTPUT}
 use Rattle.club_orders.specs.declared.texts.TheConstants.{NO_COPY, NO_ORDERS, NOT_PRIVATE, UTF_16, AUTO_VACUUM}
 use Rattle.club_orders.specs.declared.texts.TheConstants.{RESERVED_BYTES, MALFORMED, BROKEN_RULES, SEATED_NAME}
-use Rattle.club_orders.specs.declared.texts.TheConstants.{NAME_TWICE, SEATED_MEMBER, KEY_PREFIX, VIRTUAL_TABLE, VIEW}
-use Rattle.club_orders.specs.declared.texts.TheConstants.{SWEEP_LIMIT, EVENT_CLOSED, KEY_OWNER, NAMES_TAKEN}
+use Rattle.club_orders.specs.declared.texts.TheConstants.{NAME_TWICE, UNKNOWN_MEMBER, KEY_PREFIX, VIRTUAL_TABLE, VIEW}
+use Rattle.club_orders.specs.declared.texts.TheConstants.{SWEEP_LIMIT, EVENT_CLOSED, KEY_OWNER, NAMES_TAKEN, GRANT_TIME}
+use Rattle.club_orders.specs.declared.texts.TheConstants.{RULING_NUMBER}
 use Rattle.club_orders.specs.declared.texts.TheConstants.{NO_ARBITER, NO_KEY}
 use Rattle.club_orders.specs.declared.texts.TheConstants.{VIEW_TRIGGER, NAMESAKE, TABLE, OBJECT_END}
 
@@ -115,7 +116,9 @@ value_line value.MoveText = MOVE_TEXT.now
 value_line value.ListedMember = LISTED_MEMBER.now
 value_line value.SeatedName = SEATED_NAME.now
 value_line value.NameTwice = NAME_TWICE.now
-value_line value.SeatedMember = SEATED_MEMBER.now
+value_line value.UnknownMember = UNKNOWN_MEMBER.now
+value_line value.RulingNumber = RULING_NUMBER.now
+value_line value.GrantTime = GRANT_TIME.now
 value_line value.KeyPrefix = KEY_PREFIX.now
 value_line value.SweepLimit = SWEEP_LIMIT.now
 

@@ -36,7 +36,7 @@ use Rattle.club_orders.specs.declared.report.Report.TheVariants.{Listening, Port
 use Rattle.club_orders.specs.declared.report.Report.TheVariants.{AlreadyUpgraded, Batched, Copied, BackupFailed}
 use Rattle.club_orders.specs.declared.report.Report.TheVariants.{Overdue, Unread, ValueRefused}
 use Rattle.club_orders.specs.Batches.{batch_sessions, batch_status, fault_line}
-use Rattle.club_orders.specs.Recorded.{IfRecorded}
+use Rattle.club_orders.specs.Recorded.{IfRecorded, can_ask}
 use Rattle.cli.specs.declared.batches.Batch.{Batch}
 use Rattle.cli.specs.declared.words.Task.{Task}
 use Rattle.cli.specs.declared.words.Task.TheVariants as task
@@ -234,6 +234,12 @@ Shows s moment question before now (Unopened fault) =
 Shows s moment question before now (StoreFailed fault) =
     ((fault ≡ store_fault.Store) ⊎ (fault ≡ store_fault.Memory)) × HasShownSome s moment question before now
 Shows s moment question before now _ = ⊥
+
+-- The query is answered so. If the club has no tables for it, the fault says so, and nothing is written.
+abbrev pub AnswersQuery : ClubState → (moment : ℕ) → Question → Option (List ℕ) → Option (List ℕ) → Report → Type 0
+AnswersQuery s moment question before now report =
+    IfRecorded (can_ask s question) report (Shows s moment question before now report)
+    × (can_ask s question ≡ false → now ≡ before)
 
 -- ---- creation
 

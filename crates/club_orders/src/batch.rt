@@ -1,6 +1,8 @@
 //! Execution of a batch: queries, then requests in turn.
 
-ghost use Rattle.std.specs.Prelude.{◌≡◌, ◌⊎◌, false, refl, IfOk, IfErr, OnOk, is_ok};
+ghost use Rattle.std.specs.List.{list_any};
+ghost use Rattle.std.specs.Prelude.{◌≡◌, ◌⊎◌, true, false, refl, pos, IfOk, IfErr, OnOk, is_ok};
+ghost use Rattle.club_requests.specs.Questions.{is_arbiters};
 ghost use Rattle.sqlite.specs.State.{HasCleanDisk};
 ghost use Rattle.sqlite.specs.Held.{state};
 ghost use Rattle.store_tables.specs.Reading.{Reads};
@@ -42,7 +44,8 @@ fn refusal_of<S: Alter>(
     requires { club.old.needs_reopening ≡ false }
     ensures ready { OnOk result (club.new.needs_reopening ≡ false) }
     ensures same_schema { club.new.has_arbiter ≡ club.old.has_arbiter }
-    ensures possible_faults { IfErr result (λ fault. (fault ≡ StoreFault.Store) ⊎ (fault ≡ StoreFault.Memory)) }
+    ensures possible_faults { IfErr result (λ fault. (fault ≡ StoreFault.Store) ⊎ ((fault ≡ StoreFault.Memory)
+        ⊎ ((fault ≡ StoreFault.Schema (pos 2)) × (is_arbiters question.now ≡ true) × (club.old.has_arbiter ≡ false)))) }
     ensures reads { Reads (is_ok result) (state S.Store club.old.connection) (state S.Store club.new.connection) }
     ensures asked { HasCleanDisk (state S.Store club.new.connection) → IfOk result (λ refusal. (s : ClubState) →
         Asks club.old.has_arbiter (state S.Store club.old.connection) s → IsAsked s moment question.now refusal) }
@@ -65,7 +68,9 @@ fn refusal_among<S: Alter>(
     requires { club.old.needs_reopening ≡ false }
     ensures ready { OnOk result (club.new.needs_reopening ≡ false) }
     ensures same_schema { club.new.has_arbiter ≡ club.old.has_arbiter }
-    ensures possible_faults { IfErr result (λ fault. (fault ≡ StoreFault.Store) ⊎ (fault ≡ StoreFault.Memory)) }
+    ensures possible_faults { IfErr result (λ fault. (fault ≡ StoreFault.Store) ⊎ ((fault ≡ StoreFault.Memory)
+        ⊎ ((fault ≡ StoreFault.Schema (pos 2)) × (list_any is_arbiters questions.now ≡ true)
+        × (club.old.has_arbiter ≡ false)))) }
     ensures reads { Reads (is_ok result) (state S.Store club.old.connection) (state S.Store club.new.connection) }
     ensures asked { HasCleanDisk (state S.Store club.new.connection) → IfOk result (λ refusal. (s : ClubState) →
         Asks club.old.has_arbiter (state S.Store club.old.connection) s →

@@ -2,13 +2,13 @@
 
 ghost use Rattle.std.specs.Prelude.{◌≡◌};
 ghost use Rattle.club_orders.specs.Causes.{refusal_explained, wrong_value, value_of_event, value_of_import};
-ghost use Rattle.club_orders.specs.Causes.{value_of_key, value_of_member, value_of_seat};
+ghost use Rattle.club_orders.specs.Causes.{value_of_key, value_of_member, value_of_ruling, value_of_seat};
 ghost use Rattle.club_orders.specs.Lines.{line_of};
 
 use crate::texts::{fault_line, refusal_line, value_line};
 use club_requests::values::{MOST_RECORD_BYTES, is_budget, is_member_key, is_name};
 use club_requests::{
-    AddEvent, AddMember, Command, GameCommand, Import, NewKey, OnGame, Refusal, Seat,
+    AddEvent, AddMember, Command, GameCommand, Import, NewKey, OnGame, Refusal, Rule, Seat,
 };
 
 /// Which argument of a refused command or query is wrong, if the command or query alone tells.
@@ -47,8 +47,12 @@ pub enum WrongValue {
     SeatedName,
     /// A name of a round robin stands twice.
     NameTwice,
-    /// A name of a round robin is no member's.
-    SeatedMember,
+    /// A name of a round robin, or that of a member who retires, is no member's.
+    UnknownMember,
+    /// The number of a ruling is not that of one on the game or the next one.
+    RulingNumber,
+    /// The time that a ruling grants, in seconds.
+    GrantTime,
     /// The prefix of a round robin's keys.
     KeyPrefix,
     /// The limit of a sweep: more games are overdue.
@@ -245,6 +249,16 @@ fn value_of_import(import: &Import) -> WrongValue
     }
 }
 
+fn value_of_ruling(given: &Rule) -> WrongValue
+    ensures { result ≡ value_of_ruling given.now }
+{
+    if given.ruling.has_grant_time() {
+        WrongValue::RulingNumber
+    } else {
+        WrongValue::GrantTime
+    }
+}
+
 // The value that a command is refused for, if the command alone shows it.
 fn wrong_value(command: &Command) -> Option<WrongValue>
     ensures { result ≡ wrong_value command.now }
@@ -255,6 +269,7 @@ fn wrong_value(command: &Command) -> Option<WrongValue>
         Command::Seat(seat) => Some(value_of_seat(seat)),
         Command::Import(import) => Some(value_of_import(import)),
         Command::NewKey(given) => Some(value_of_key(given)),
+        Command::Rule(given) => Some(value_of_ruling(given)),
         Command::OnGame(
             OnGame {
                 game: _,

@@ -28,12 +28,13 @@ ghost use Rattle.club_orders.specs.Report.{IfTaken, IfUpgradeOf, IsLedTo, IsRepe
 ghost use Rattle.club_orders.specs.internal.Report.{IsUpgradeResult};
 ghost use Rattle.club_orders.specs.Report.{IsCreated, IsCreation, IsExisting};
 ghost use Rattle.club_orders.specs.internal.Report.{upgrade_report};
-ghost use Rattle.club_orders.specs.Report.{Shows, IsPassed, IsBegun, IsBegunBehind, request_sessions, task_sessions};
+ghost use Rattle.club_orders.specs.Report.{AnswersQuery, IsPassed, IsBegun, IsBegunBehind, request_sessions};
+ghost use Rattle.club_orders.specs.Report.{task_sessions};
 ghost use Rattle.club_orders.specs.Report.{schema_led_to, schemas_after, schemas_after_upgrade, writes};
 ghost use Rattle.club_check.specs.Refused.{HoldClub};
 ghost use Rattle.club_check.specs.Versions.{HasToldTables, IsOpenedAt};
 ghost use Rattle.club_check.specs.internal.Refused.{IsKept, IsRefusal};
-ghost use Rattle.club_orders.specs.Recorded.{IfRecorded};
+ghost use Rattle.club_orders.specs.Recorded.{IfRecorded, can_ask};
 ghost use Rattle.club_orders.specs.Refused.{HasEarlier, IfAccepted, IfOpensClub, IsOlder};
 ghost use Rattle.club_orders.specs.internal.Refused.{HasFirst, IsUpgradeRefusal};
 ghost use Rattle.club_orders.specs.internal.Recorded.{unopened_unrecorded};
@@ -150,7 +151,7 @@ fn report_of_question(answer: Result<Option<Refusal>, AskFault>) -> Report
 }
 
 impl Execute for Question {
-    ghost IsAnswer = { λ question s moment before now report. Shows s moment question before now report };
+    ghost IsAnswer = { λ question s moment before now report. AnswersQuery s moment question before now report };
 
     ghost chapters = { λ question moment report. [] };
 
@@ -158,7 +159,8 @@ impl Execute for Question {
 
     ghost unchanged = { λ question them s moment fault trees is. is };
 
-    ghost untaken = { λ question s moment bytes fault is. (is, refl) };
+    ghost untaken = { λ question s moment bytes fault is.
+        (unopened_unrecorded (can_ask s question) fault (λ x. (x, refl)) is, λ none. refl) };
 
     ghost no_chapter = { λ question moment fault. refl };
 
@@ -328,7 +330,8 @@ pub fn act<S: Alter, W: Write>(
         IfBatch task.now (λ batch. AnswersBatch s moment batch result.0) }
     ensures asked { HasCleanDisk (state S.Store result.1) → Opens (state S.Store conn) → IsLive (state S.Store conn) →
         (s : ClubState) → IsClub s → HasState s (state S.Store conn).committed.trees →
-        IfAsk task.now (λ question. Shows s moment question (W.contents out.old) (W.contents out.new) result.0) }
+        IfAsk task.now (λ question.
+        AnswersQuery s moment question (W.contents out.old) (W.contents out.new) result.0) }
     ensures passes { HasCleanDisk (state S.Store result.1) → Opens (state S.Store conn) → IsLive (state S.Store conn) →
         (s : ClubState) → IsClub s → HasState s (state S.Store conn).committed.trees →
         IfVerify task.now (IsPassed (version_of s) result.0) }

@@ -19,7 +19,7 @@ use club_requests::{Command, Outcome, Question, Refusal};
 use std::io::Write;
 use store::{OpenFault, StoreFault};
 
-// The explanation of a query's refusal. Only a list of games takes a member's name as a value.
+// The explanation of a query's refusal. The name of a member is the only value that a query is refused for.
 fn question_explained(question: &Question, refusal: Refusal) -> Explanation
     ensures { result ≡ question_explained question.now refusal }
 {
@@ -29,6 +29,9 @@ fn question_explained(question: &Question, refusal: Refusal) -> Explanation
         }
         Question::GamesJson(_) if refusal == Refusal::BadValue => {
             Explanation::Value(WrongValue::ListedMember)
+        }
+        Question::RulingOrders(_) if refusal == Refusal::BadValue => {
+            Explanation::Value(WrongValue::UnknownMember)
         }
         _ => Explanation::Refusal(refusal),
     }
@@ -42,7 +45,7 @@ fn task_explained(task: &Task, refusal: Refusal) -> Explanation
         Task::Ask(question) => question_explained(question, refusal),
         // A query of a batch asks for a member of a round robin.
         Task::Batch(_) if refusal == Refusal::BadValue => {
-            Explanation::Value(WrongValue::SeatedMember)
+            Explanation::Value(WrongValue::UnknownMember)
         }
         _ => Explanation::Refusal(refusal),
     }

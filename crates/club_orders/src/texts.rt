@@ -31,8 +31,8 @@ const WRONG_PLY: &str =
     "PLY is 0, or moves before it are missing; 'games' shows how many plies were played\n";
 // 58
 const CONFLICT: &str =
-    "another move was played at this PLY, another key was given under this NUMBER, or this KEY \
-    belongs to another game; 'games' lists the keys of games\n";
+    "another move was played at this PLY, another key or ruling was given under this NUMBER, or \
+    this KEY belongs to another game; 'games' lists the keys of games\n";
 // 59
 const NOT_YOUR_TURN: &str = "it is the other side's turn\n";
 // 60
@@ -50,8 +50,8 @@ const NAME_TAKEN: &str =
 const BAD_VALUE: &str = "a value is not allowed: --help after the command shows the limits\n";
 // 66
 const FULL: &str =
-    "the club is full: it holds 200 members, 50 events and 5,000 games, and each member 99 later \
-    keys\n";
+    "the club is full: it holds 200 members, 50 events and 5,000 games, a member 99 later keys, \
+    and a game 99 rulings\n";
 // 67
 const NOT_DECLARABLE: &str = "the side to move may not declare a win in this position\n";
 // 68
@@ -161,7 +161,12 @@ const SEATED_NAME: &str =
 
 const NAME_TWICE: &str = "a NAME stands twice\n";
 
-const SEATED_MEMBER: &str = "a NAME is no member's; 'members' lists them\n";
+const UNKNOWN_MEMBER: &str = "a NAME is no member's; 'members' lists them\n";
+
+const RULING_NUMBER: &str =
+    "NUMBER is not that of a ruling on the game or the next one; 'rulings' lists them\n";
+
+const GRANT_TIME: &str = "this value is not allowed: SECONDS must be 1 to 31,536,000\n";
 
 const KEY_PREFIX: &str =
     "this value is not allowed: PREFIX and the number of each game must be 1 to 24 letters, \
@@ -376,7 +381,9 @@ pub(crate) fn value_line(value: WrongValue) -> &'static str
         WrongValue::ListedMember => LISTED_MEMBER,
         WrongValue::SeatedName => SEATED_NAME,
         WrongValue::NameTwice => NAME_TWICE,
-        WrongValue::SeatedMember => SEATED_MEMBER,
+        WrongValue::UnknownMember => UNKNOWN_MEMBER,
+        WrongValue::RulingNumber => RULING_NUMBER,
+        WrongValue::GrantTime => GRANT_TIME,
         WrongValue::KeyPrefix => KEY_PREFIX,
         WrongValue::SweepLimit => SWEEP_LIMIT,
     }

@@ -2,7 +2,7 @@
 
 ghost use Rattle.std.specs.Prelude.{◌≤◌};
 
-use crate::orders::{run_order, run_order_on_file};
+use crate::orders::{ask_on_file, run_order, run_order_on_file};
 use crate::printing::{print_report, print_text, refuse_words};
 use crate::records::{read_batch, read_record, without_mark};
 use crate::served_batch::{PreparedBatch, SentBatch, send_batch, status_with};
@@ -340,5 +340,36 @@ pub(crate) fn run_round_robin(rt: &HostRuntime, robin: RoundRobin) -> u8
             },
         ),
         Err(_) => print_report(rt, &Task::Verify, &Report::NoMemory, robin.explains),
+    }
+}
+
+// The batch that gives the rulings of these lines.
+fn rulings_at(rt: &HostRuntime, order: &Order, lines: &[u8]) -> Result<(Moment, Batch), Unbegun> {
+    let moment = moment_for(rt, order.now)?;
+    Ok((moment, batch_in(rt, lines, moment)?))
+}
+
+/// Gives the rulings on many games that the query of the order lists, as a batch; returns the exit status.
+pub(crate) fn run_bulk_ruling(rt: &HostRuntime, order: Order) -> u8
+    ensures { result ≤ 3 }
+{
+    let explains = order.explains;
+    let mut lines = Vec::new(rt.alloc());
+    let report = ask_on_file(rt, &order, &mut lines);
+    if report.status() != DONE {
+        return print_report(rt, &order.task, &report, explains);
+    }
+    match rulings_at(rt, &order, lines.as_slice()) {
+        Ok((moment, batch)) => run_prepared(
+            rt,
+            PreparedBatch {
+                file: order.file,
+                moment,
+                batch,
+                lines,
+                explains,
+            },
+        ),
+        Err(unbegun) => print_unbegun(rt, unbegun, explains),
     }
 }

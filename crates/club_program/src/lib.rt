@@ -25,7 +25,7 @@ mod served_batch;
 mod service;
 mod words;
 
-use batches::{run_batch, run_round_robin};
+use batches::{run_batch, run_bulk_ruling, run_round_robin};
 use cli::{BadWords, Invocation};
 pub use on_server::is_printed_alike;
 use orders::run_with_record;
@@ -53,6 +53,7 @@ pub fn run(rt: &HostRuntime) -> u8
         Ok(Invocation::Order(order)) => run_with_record(rt, words.as_slice(), order),
         Ok(Invocation::Batch(batch)) => run_batch(rt, batch),
         Ok(Invocation::RoundRobin(robin)) => run_round_robin(rt, robin),
+        Ok(Invocation::BulkRuling(order)) => run_bulk_ruling(rt, order),
         Ok(Invocation::Serve(service)) => run_service(rt, &service),
         Err(bad) => refuse_words(rt, bad),
     }

@@ -34,6 +34,24 @@ fn run_on_file(rt: &HostRuntime, order: &Order) -> Report {
     )
 }
 
+/// Appends the answer to the query of an order over the file; a server that holds it releases it meanwhile.
+pub(crate) fn ask_on_file(rt: &HostRuntime, order: &Order, answer: &mut Vec<u8>) -> Report {
+    let _leave = request_lease(rt, order.file.as_str());
+    let moment = match order.now.or(clock(rt)) {
+        Some(moment) => moment,
+        None => return Report::NoClock,
+    };
+    let file = order.file.as_str();
+    let had_log = has_log(rt, file);
+    let opened = open_files(rt, order, Wary);
+    release_files(
+        rt,
+        file,
+        had_log,
+        execute_order(rt.alloc(), opened, &order.task, moment, answer),
+    )
+}
+
 /// Executes a command over the file; a server that holds it releases it meanwhile.
 pub(crate) fn run_order_on_file(rt: &HostRuntime, order: &Order) -> Report {
     let _leave = request_lease(rt, order.file.as_str());

@@ -1,3 +1,4 @@
 pub mod Closings
 pub mod Holders
 pub mod Later
+pub mod Rulings

@@ -21,13 +21,13 @@ ghost use Rattle.store_tables.specs.Reading.{Reads};
 ghost use Rattle.store_tables.specs.Names.{tree_of};
 ghost use Rattle.store_tables.specs.declared.names.Table.TheVariants.{Scores};
 ghost use Rattle.club_changes.specs.internal.Steps.{FindsSeenRows, IsSeenAfter, HasTwoPlayers, AreScoresAfter};
-ghost use Rattle.club_changes.specs.internal.Steps.{PutsScores};
+ghost use Rattle.club_changes.specs.internal.Steps.{AreScoresRuled, ChangesScores, PutsScores, PutsScoresOf};
 ghost use Rattle.club_changes.specs.internal.Steps.{score_list};
 
 use crate::fault::LookupFault;
 use crate::found::first;
-use club_core::{Decision, Pairing};
-use club_rows::{Occurrences, ScoreRows, occurrences_in, score_after, seen_after};
+use club_core::{Decision, GameRow, Pairing};
+use club_rows::{Occurrences, ScoreRows, occurrences_in, score_after, score_changed, seen_after};
 use club_rules::Rules;
 use sqlite::{Alter, Connection};
 use squares::Score;
@@ -146,7 +146,7 @@ fn score_of<S: Alter>(
     Ok(row)
 }
 
-/// Returns both players' rows of scores after a game with this score; `one` plays First.
+/// Returns both players' rows of scores after a game with this score, None for a void one; `one` plays First.
 ///
 /// # Errors
 ///
@@ -158,7 +158,7 @@ pub fn score_rows_after<S: Alter>(
     event: u32,
     one: u32,
     other: u32,
-    score: Score,
+    score: Option<Score>,
 ) -> Result<ScoreRows, LookupFault>
     ensures reads { Reads (is_ok result) (state S.Store conn.old) (state S.Store conn.new) }
     ensures puts { HasCleanDisk (state S.Store conn.new) → IfOk result (λ pair. (content : Content) →
@@ -202,11 +202,87 @@ pub fn score_rows_of_decision<R: Rules, S: Alter>(
         } => row,
         _ => return Ok(None),
     };
-    match row.result {
-        Some(score) => {
-            let pair = score_rows_after(alloc, conn, row.event, row.first, row.second, score)?;
+    ended_scores(alloc, conn, row)
+}
+
+// Both players' rows of scores after the game in this row, if it has ended.
+fn ended_scores<E, S: Alter>(
+    alloc: Global,
+    conn: &mut Connection<S>,
+    row: &GameRow<E>,
+) -> Result<Option<ScoreRows>, LookupFault>
+    ensures reads { Reads (is_ok result) (state S.Store conn.old) (state S.Store conn.new) }
+    ensures scores { HasCleanDisk (state S.Store conn.new) → IfOk result (λ scores. (content : Content) →
+        HasRows content (state S.Store conn.old) → row.now.first ≢ row.now.second →
+        PutsScoresOf (content (tree_of Scores)) row.now.event row.now.first row.now.second row.now.end row.now.result
+        (score_list scores)) }
+{
+    match row.end {
+        Some(_) => {
+            let pair = score_rows_after(alloc, conn, row.event, row.first, row.second, row.result)?;
             Ok(Some(pair))
         }
         None => Ok(None),
+    }
+}
+
+// Both players' rows of scores after the result of the ended game in this row has changed.
+fn changed_scores<E, S: Alter>(
+    alloc: Global,
+    conn: &mut Connection<S>,
+    row: &GameRow<E>,
+    old: Option<Score>,
+) -> Result<ScoreRows, LookupFault>
+    ensures reads { Reads (is_ok result) (state S.Store conn.old) (state S.Store conn.new) }
+    ensures changes { HasCleanDisk (state S.Store conn.new) → IfOk result (λ pair. (content : Content) →
+        HasRows content (state S.Store conn.old) → row.now.first ≢ row.now.second →
+        ChangesScores (content (tree_of Scores)) row.now.event row.now.first row.now.second old row.now.result
+        (score_list (Some pair))) }
+{
+    let firsts = score_of(alloc, conn, row.event, row.first, row.second)?;
+    let seconds = score_of(alloc, conn, row.event, row.second, row.first)?;
+    let pairing = Pairing {
+        event: row.event,
+        first: row.first,
+        second: row.second,
+    };
+    match score_changed(pairing, old, row.result, firsts.as_ref(), seconds.as_ref()) {
+        Some(pair) => Ok(pair),
+        None => Err(LookupFault::Store),
+    }
+}
+
+/// Returns both players' rows of scores if the ruling changes the result of the game, or ends it; else None. `old` is
+/// the game's row before the ruling.
+///
+/// # Errors
+///
+/// - `Store` if a call of the database fails, a row is invalid, or a sum overflows.
+/// - `Memory` if out of memory.
+pub fn score_rows_of_ruling<R: Rules, S: Alter>(
+    alloc: Global,
+    conn: &mut Connection<S>,
+    old: &GameRow<R::End>,
+    decision: &Decision<R>,
+) -> Result<Option<ScoreRows>, LookupFault>
+    ensures reads { Reads (is_ok result) (state S.Store conn.old) (state S.Store conn.new) }
+    ensures scores { HasCleanDisk (state S.Store conn.new) → IfOk result (λ scores. (content : Content) →
+        HasRows content (state S.Store conn.old) → HasTwoPlayers decision.now →
+        AreScoresRuled (content (tree_of Scores)) old.now decision.now scores) }
+{
+    let row = match decision {
+        Decision::Accepted {
+            row,
+            made: _,
+            answer: _,
+        } => row,
+        _ => return Ok(None),
+    };
+    match old.end {
+        Some(_) => {
+            let pair = changed_scores(alloc, conn, row, old.result)?;
+            Ok(Some(pair))
+        }
+        None => ended_scores(alloc, conn, row),
     }
 }

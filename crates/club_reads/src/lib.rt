@@ -29,7 +29,10 @@ mod played;
 mod shown;
 
 pub use challenges::challenge_by;
-pub use counts::{occurrences_of, score_rows_after, score_rows_of_decision, seen_row_of_decision};
+pub use counts::{
+    occurrences_of, score_rows_after, score_rows_of_decision, score_rows_of_ruling,
+    seen_row_of_decision,
+};
 pub use events::{all_events, event_with};
 pub use fault::LookupFault;
 pub use found::first;
@@ -38,4 +41,4 @@ pub use known::read_known;
 pub use meta::last_moment;
 pub use people::{all_members, identify_caller, member_by_key, name_of};
 pub use played::played_under;
-pub use shown::{row_of, view, view_at_ply};
+pub use shown::{row_of, rulings_on, view, view_at_ply};

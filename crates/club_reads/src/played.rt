@@ -11,8 +11,10 @@ ghost use Rattle.store_tables.specs.Contents.{Content};
 ghost use Rattle.store_tables.specs.Reading.{Reads};
 ghost use Rattle.club_changes.specs.internal.Importing.{IsOfKind, TellsLine};
 ghost use Rattle.club_changes.specs.Steps.{IsRecordOf};
+ghost use Rattle.club_reads.specs.internal.Rulings.{FindsVerdict, FindsVerdictUnder};
 
 use crate::fault::LookupFault;
+use crate::shown::end_beneath;
 use club_changes::{StoredGame, played_of};
 use club_imports::PlayedGame;
 use club_rules::{GameKind, Rules};
@@ -31,12 +33,14 @@ pub(crate) fn played_in<R: Rules, S: Alter>(
     ensures played { HasCleanDisk (state S.Store conn.new) → IfOk result (λ played. (content : Content)
         (game : Game R.Move) → HasRows content (state S.Store conn.old) →
         TellsLine R.rules (terms_given stored.now.terms) stored.now.id game content →
+        FindsVerdict stored.now.id game content (state S.Store conn.old) →
         IsRecordOf R.rules (terms_given stored.now.terms) stored.now.id stored.now.row game →
         IsPlayedOf R.rules game played) }
 {
     let id = i64::from(stored.id);
     let rows = find_by_first::<MoveRow, S>(alloc, conn, &id)?;
-    match played_of::<R>(alloc, stored.terms, stored.id, &stored.row, &rows)? {
+    let beneath = end_beneath::<R, S>(alloc, conn, stored)?;
+    match played_of::<R>(alloc, &stored.row, &rows, beneath)? {
         Some(played) => Ok(played),
         None => Err(LookupFault::Store),
     }
@@ -57,7 +61,8 @@ pub fn played_under<R: Rules, S: Alter>(
     ensures reads { Reads (is_ok result) (state S.Store conn.old) (state S.Store conn.new) }
     ensures played { HasCleanDisk (state S.Store conn.new) → IfOk result (λ played. (content : Content)
         (old : Option (Game R.Move)) → HasRows content (state S.Store conn.old) →
-        IsOfKind R.rules kind content old under.now → ShowsPlayed R.rules old played) }
+        IsOfKind R.rules kind content old under.now → FindsVerdictUnder old under.now content (state S.Store conn.old) →
+        ShowsPlayed R.rules old played) }
 {
     let stored = match under {
         Some(stored) => stored,

@@ -1,11 +1,15 @@
 //! Builds the view of a game from its own row, and from the rows of one ply.
 
-ghost use Rattle.std.specs.Prelude.{◌≡◌, ◌<◌, pos, IfOk, is_ok, None};
+ghost use Rattle.std.specs.Prelude.{◌≡◌, ◌<◌, pos, IfOk, IsSome, List, Option, is_ok, None};
 ghost use Rattle.std.specs.Option.{option_map};
+ghost use Rattle.club_requests.specs.declared.outside_end.OutsideEnd as outside_end;
 ghost use Rattle.club_core.specs.Events as core;
 ghost use Rattle.club_core.specs.Game.{Game};
 ghost use Rattle.club_core.specs.Legal.{IsLegalGame};
+ghost use Rattle.club_core.specs.Rulings as core_rulings;
+ghost use Rattle.club_core.specs.Rulings.{verdict_of};
 ghost use Rattle.club_core.specs.View.{IsSound, Shows, ShowsPly, terms_of};
+ghost use Rattle.club_rows.specs.Rulings.{ArePossible};
 ghost use Rattle.club_rows.specs.internal.Replay.{terms_given};
 ghost use Rattle.club_rows.specs.internal.RowView.{HasLastStood, AreRowsAt, row_at};
 ghost use Rattle.sqlite.specs.State.{HasCleanDisk};
@@ -14,6 +18,8 @@ ghost use Rattle.store_tables.specs.Cells.{move_cells};
 ghost use Rattle.store_tables.specs.internal.Over.{HasRows};
 ghost use Rattle.store_tables.specs.Contents.{Content};
 ghost use Rattle.store_tables.specs.Reading.{Reads};
+ghost use Rattle.club_rows.specs.internal.Rulings.{IsBeneath, rulings_given};
+ghost use Rattle.club_reads.specs.internal.Rulings.{FindsRulingRows, FindsVerdict};
 ghost use Rattle.club_changes.specs.Steps.{IsRecordOf};
 ghost use Rattle.club_changes.specs.internal.Steps.{FindsMoveRows, FindsSeenRows};
 
@@ -21,13 +27,17 @@ use crate::fault::LookupFault;
 use crate::found::first;
 use club_changes::StoredGame;
 use club_core::GameView;
+use club_requests::OutsideEnd;
 use club_requests::values::MOST_PLIES;
-use club_rows::{Occurrences, PlyRows, occurrences_in, view_of_row, with_ply};
+use club_rows::{
+    GameRulings, Occurrences, PlyRows, has_verdict, occurrences_in, read_rulings, view_of_row,
+    with_ply,
+};
 use club_rules::Rules;
 use sqlite::{Alter, Connection};
 use std::alloc::Global;
-use store_sql::{MovePly, SeenPosition, find};
-use store_tables::MoveRow;
+use store_sql::{MovePly, SeenPosition, find, find_by_first};
+use store_tables::{MoveRow, RulingRow};
 
 fn position_of<'a>(game: u32, position: &'a str) -> SeenPosition<'a>
     ensures game { result.game ≡ pos game }
@@ -91,6 +101,56 @@ pub fn row_of<R: Rules, S: Alter>(
     Ok(row)
 }
 
+/// Returns the arbiter's rulings on the game with this id, in the order of their numbers, of a club with an arbiter.
+///
+/// # Errors
+///
+/// - `Store` if a call of the database fails, or the rows are not those of rulings.
+/// - `Memory` if out of memory.
+pub fn rulings_on<S: Alter>(
+    alloc: Global,
+    conn: &mut Connection<S>,
+    game: u32,
+) -> Result<GameRulings, LookupFault>
+    ensures reads { Reads (is_ok result) (state S.Store conn.old) (state S.Store conn.new) }
+    ensures possible { IfOk result (λ read. ArePossible (rulings_given read.given.items)) }
+    ensures found { HasCleanDisk (state S.Store conn.new) → IfOk result (λ read. (content : Content)
+        (rulings : List core_rulings.GivenRuling) (outside : Option outside_end.OutsideEnd) →
+        FindsRulingRows game rulings outside content (state S.Store conn.old) →
+        (rulings_given read.given.items ≡ rulings) × (IsSome (verdict_of rulings) → read.beneath ≡ outside)) }
+{
+    let id = i64::from(game);
+    let rows = find_by_first::<RulingRow, S>(alloc, conn, &id)?;
+    match read_rulings(alloc, game, &rows)? {
+        Some(rulings) => Ok(rulings),
+        None => Err(LookupFault::Store),
+    }
+}
+
+/// Returns the end outside the rules that the arbiter's first verdict on a stored game replaced. Without a verdict it
+/// is None, and nothing is read.
+///
+/// # Errors
+///
+/// - `Store` if a call of the database fails, or the rows are not those of rulings.
+/// - `Memory` if out of memory.
+pub(crate) fn end_beneath<R: Rules, S: Alter>(
+    alloc: Global,
+    conn: &mut Connection<S>,
+    stored: &StoredGame,
+) -> Result<Option<OutsideEnd>, LookupFault>
+    ensures reads { Reads (is_ok result) (state S.Store conn.old) (state S.Store conn.new) }
+    ensures beneath { HasCleanDisk (state S.Store conn.new) → IfOk result (λ end. (content : Content)
+        (game : Game R.Move) → FindsVerdict stored.now.id game content (state S.Store conn.old) →
+        IsRecordOf R.rules (terms_given stored.now.terms) stored.now.id stored.now.row game → IsBeneath game end) }
+{
+    if !has_verdict::<R>(&stored.row) {
+        return Ok(None);
+    }
+    let rulings = rulings_on(alloc, conn, stored.id)?;
+    Ok(rulings.beneath)
+}
+
 fn no_rows() -> PlyRows
     ensures at { result.at ≡ None }
     ensures before { result.before ≡ None }
@@ -142,10 +202,12 @@ pub fn view<R: Rules, S: Alter>(
     ensures shows { HasCleanDisk (state S.Store conn.new) →
         IfOk result (λ view. (content : Content) (game : Game R.Move) →
         HasRows content (state S.Store conn.old) → FindsSeenRows R.rules stored.now.id game content →
+        FindsVerdict stored.now.id game content (state S.Store conn.old) →
         IsRecordOf R.rules (terms_given stored.now.terms) stored.now.id stored.now.row game → Shows R.rules game view) }
 {
     let stood = last_occurrences::<R, S>(alloc, conn, stored)?;
-    match view_of_row::<R>(alloc, &stored.row, stored.terms, stood)? {
+    let beneath = end_beneath::<R, S>(alloc, conn, stored)?;
+    match view_of_row::<R>(alloc, &stored.row, stored.terms, stood, beneath)? {
         Some(view) => Ok(view),
         None => Err(LookupFault::Store),
     }
@@ -170,6 +232,7 @@ pub fn view_at_ply<R: Rules, S: Alter>(
         IfOk result (λ view. (content : Content) (game : Game R.Move) →
         HasRows content (state S.Store conn.old) → FindsSeenRows R.rules stored.now.id game content →
         FindsMoveRows R.rules (terms_given stored.now.terms) stored.now.id game content →
+        FindsVerdict stored.now.id game content (state S.Store conn.old) →
         IsRecordOf R.rules (terms_given stored.now.terms) stored.now.id stored.now.row game →
         Shows R.rules game view × ShowsPly R.rules game ply view) }
 {

@@ -36,6 +36,7 @@ answer_text (answer.ChallengeAccepted number game) =
     codes "challenge " ++ (decimal number ++ (codes " accepted game " ++ decimal game))
 answer_text (answer.KeyGiven number) = codes "key " ++ decimal number
 answer_text answer.EventClosed = codes "closed"
+answer_text (answer.RulingGiven number) = codes "ruling " ++ decimal number
 
 -- the printed form of an outcome: whether the command is accepted, repeated or refused, and its answer or refusal
 abbrev pub outcome_text : Outcome → List ℕ

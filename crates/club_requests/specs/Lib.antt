@@ -3,5 +3,7 @@ pub mod AnswerText
 pub mod Limits
 pub mod Outcome
 pub mod OutsideEnd
+pub mod Questions
 pub mod Refusal
+pub mod Rulings
 pub mod internal

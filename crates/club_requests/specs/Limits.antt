@@ -40,6 +40,14 @@ greatest_challenge = 9999
 abbrev pub most_keys : ℕ
 most_keys = 99
 
+-- maximum number of rulings on a game
+abbrev pub most_rulings : ℕ
+most_rulings = 99
+
+-- the longest time that a ruling grants, in seconds
+abbrev pub longest_grant : ℕ
+longest_grant = 31536000
+
 -- latest timestamp, in Unix seconds: the end of the year 9999
 abbrev pub last_moment : ℕ
 last_moment = 253402300799
@@ -67,3 +75,7 @@ is_budget seconds = nat_le 1 seconds && nat_le seconds 31536000
 -- time added for each move, in seconds
 abbrev pub is_increment : ℕ → Bool
 is_increment seconds = nat_le seconds 2592000
+
+-- time that a ruling grants, in seconds
+abbrev pub is_grant_time : ℕ → Bool
+is_grant_time seconds = nat_le 1 seconds && nat_le seconds longest_grant

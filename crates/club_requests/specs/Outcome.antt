@@ -39,6 +39,8 @@ pub data Reply : Type 0 where
   key_given : (number : ℕ) → Reply
   -- the event is closed to challenges
   event_closed : Reply
+  -- the arbiter's ruling on a game under this number
+  ruling_given : (number : ℕ) → Reply
 
 -- accepted with the new state, repeated, or refused
 pub data Outcome (S : Type 0) : Type 0 where

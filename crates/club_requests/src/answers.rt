@@ -42,6 +42,8 @@ pub enum Answer {
     KeyGiven { number: u64 },
     /// The event was closed to challenges.
     EventClosed,
+    /// The arbiter's ruling with this number was given on the game.
+    RulingGiven { number: u64 },
 }
 
 /// The outcome of a command. A repeat returns the answer of the command that it repeats. Only an accepted command
@@ -63,6 +65,7 @@ pub enum Outcome {
 /// - a challenge with its state: `challenge 3 open`, `challenge 3 accepted game 7`
 /// - a later key of a member, by its number: `key 1`
 /// - a closed event: `closed`
+/// - a ruling on a game, by its number: `ruling 1`
 impl fmt::Display for Answer {
     ghost use Rattle.std.specs.Prelude.{Some};
     ghost use Rattle.club_requests.specs.AnswerText.{answer_text};
@@ -86,6 +89,7 @@ impl fmt::Display for Answer {
             }
             Answer::KeyGiven { number } => write!(f, "key {number}"),
             Answer::EventClosed => write!(f, "closed"),
+            Answer::RulingGiven { number } => write!(f, "ruling {number}"),
         }
     }
 }

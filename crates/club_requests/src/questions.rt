@@ -1,5 +1,8 @@
 //! The queries and their parameters.
 
+ghost use Rattle.std.specs.Prelude.{◌≡◌};
+ghost use Rattle.club_requests.specs.Questions.{is_arbiters};
+
 use club_rules::GameKind;
 
 /// Filter of a list of games.
@@ -51,6 +54,27 @@ pub struct Analysis {
     pub moves: Vec<String>,
 }
 
+/// Rulings of one kind on many running games.
+#[derive(Debug, Drop)]
+pub enum BulkRuling {
+    /// Each running game of a member in an event is void, or awarded to the opponent.
+    Retire {
+        /// The name of the member.
+        member: String,
+        /// The name of the event.
+        event: String,
+        /// Whether the member loses the games; otherwise they are void.
+        is_loss: bool,
+    },
+    /// In each running game of an event First and then Second have more time.
+    Extend {
+        /// The name of the event.
+        event: String,
+        /// The seconds for each side.
+        seconds: u64,
+    },
+}
+
 /// A query to the club.
 #[derive(Debug, Drop)]
 pub enum Question {
@@ -68,6 +92,10 @@ pub enum Question {
     Games(Listing),
     /// The challenges of all members, one per line.
     Challenges,
+    /// The rulings on the game with this id, one per line.
+    Rulings(u64),
+    /// The commands that give these rulings, as lines of a batch.
+    RulingOrders(BulkRuling),
     /// The names of the members, as JSON.
     MembersJson,
     /// The events with the numbers of their games, as JSON.
@@ -76,6 +104,8 @@ pub enum Question {
     GamesJson(Listing),
     /// The challenges of all members, as JSON.
     ChallengesJson,
+    /// The rulings on the game with this id, as JSON.
+    RulingsJson(u64),
     /// The running games and challenges of the member with this key, as JSON.
     MyGames(String),
     /// The ended games of the member with this key, as JSON.
@@ -105,4 +135,16 @@ pub enum Question {
     EventRecords(String),
     /// The position after moves that are tried, the legal moves there and the end, as JSON.
     Analysis(Analysis),
+}
+
+impl Question {
+    /// Whether only a club with an arbiter answers the query: it prints rulings that can be given.
+    pub fn is_arbiters(&self) -> bool
+        ensures { result ≡ is_arbiters self.now }
+    {
+        match self {
+            Question::RulingOrders(_) => true,
+            _ => false,
+        }
+    }
 }

@@ -31,8 +31,8 @@ pub enum Refusal {
     /// The ply is 0 or greater than the next one, or a draw offer, acceptance or declaration does not name the next
     /// ply.
     WrongPly,
-    /// The command contradicts what is stored: another move at this ply, another game, challenge or key of a member
-    /// under this key or number, a closed challenge, or a draw offer of the opponent.
+    /// The command contradicts what is stored: another move at this ply, another game, challenge, ruling or key of a
+    /// member under this key or number, a closed challenge, or a draw offer of the opponent.
     Conflict,
     /// It is the opponent's turn; for a claim of time it is the caller's own.
     NotYourTurn,
@@ -46,7 +46,8 @@ pub enum Refusal {
     NameTaken,
     /// A value is outside its limits, a player is unknown or named twice, or the text has no such record.
     BadValue,
-    /// The club has reached its limit of members, events or games, or the member that of keys.
+    /// The club has reached its limit of members, events or games, the member that of keys, or the game that of
+    /// rulings.
     Full,
     /// The event has no declarations, or the position does not allow the side to move to declare a win.
     NotDeclarable,

@@ -3,6 +3,7 @@
 ghost use Rattle.std.specs.Prelude.{◌≡◌, option_map};
 ghost use Rattle.club_requests.specs.internal.CommandName.{command_name, game_command_name, import_name};
 
+use crate::rulings::Ruling;
 use clocks::Moment;
 use club_rules::{GameKind, RecordFormat};
 
@@ -120,6 +121,14 @@ pub struct CloseEvent {
     pub event: String,
 }
 
+/// Gives a ruling on the game with this id, under a number that counts from 1.
+#[derive(Debug, Drop)]
+pub struct Rule {
+    pub game: u64,
+    pub number: u64,
+    pub ruling: Ruling,
+}
+
 /// A command to the club.
 #[derive(Debug, Drop)]
 pub enum Command {
@@ -135,6 +144,7 @@ pub enum Command {
     Answer(AnswerChallenge),
     NewKey(NewKey),
     CloseEvent(CloseEvent),
+    Rule(Rule),
 }
 
 // The subcommand that imports a record of this format.
@@ -173,6 +183,7 @@ impl Command {
             Command::Sweep => Some("sweep"),
             Command::NewKey(_) => Some("key"),
             Command::CloseEvent(_) => Some("close"),
+            Command::Rule(_) => Some("rule"),
             Command::Challenge(_) | Command::Withdraw(_) | Command::Answer(_) => None,
         }
     }

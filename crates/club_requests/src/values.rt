@@ -4,7 +4,7 @@ ghost use Rattle.std.specs.Prelude.{◌≡◌};
 ghost use Rattle.std.specs.Char.{is_ascii_alphanumeric};
 ghost use Rattle.std.specs.List.{list_all};
 ghost use Rattle.club_requests.specs.Limits.{is_name, is_name_byte, is_member_key, is_challenge_number, is_budget};
-ghost use Rattle.club_requests.specs.Limits.{is_increment};
+ghost use Rattle.club_requests.specs.Limits.{is_increment, is_grant_time};
 
 /// The maximum number of members of a club.
 pub const MOST_MEMBERS: usize = 200;
@@ -32,6 +32,12 @@ pub const GREATEST_CHALLENGE: u64 = 9_999;
 
 /// The maximum number of keys that a member is given after the first one.
 pub const MOST_KEYS: usize = 99;
+
+/// The maximum number of rulings on a game.
+pub const MOST_RULINGS: u32 = 99;
+
+/// The longest time that a ruling grants, in seconds: 365 days.
+pub const LONGEST_GRANT: u64 = 31_536_000;
 
 /// The maximum budget, in seconds: 365 days.
 pub const LONGEST_BUDGET: u64 = 31_536_000;
@@ -91,4 +97,11 @@ pub fn is_increment(seconds: u64) -> bool
     ensures { result ≡ is_increment seconds }
 {
     seconds <= GREATEST_INCREMENT
+}
+
+/// Whether a ruling may grant this time: 1 to `LONGEST_GRANT` seconds.
+pub fn is_grant_time(seconds: u64) -> bool
+    ensures { result ≡ is_grant_time seconds }
+{
+    1 <= seconds && seconds <= LONGEST_GRANT
 }

@@ -20,12 +20,14 @@ use Rattle.store_tables.specs.Tables.{schema_number}
 use Rattle.store_tables.specs.declared.names.Version.TheVariants.{V2, V3}
 use Rattle.club_rows.specs.Tables.{member_row, event_row, game_row, move_rows, at_start, row_of_game, declares_number}
 use Rattle.club_rows.specs.Tables.{rule_row, rows_of_moves, numbered_from, gathered_from, tables_of, number, key_row}
-use Rattle.club_rows.specs.Tables.{closing_row, kind_number, rows_of_keys, rows_of_closing, version_of}
+use Rattle.club_rows.specs.Tables.{closing_row, kind_number, rows_of_keys, rows_of_closing, rows_of_rulings}
+use Rattle.club_rows.specs.Tables.{ruling_rows, version_of}
 use Rattle.club_rows.proofs.GatheredLemmas.{gathered-had}
 use Rattle.club_rows.proofs.WholeLemmas.{rows-count}
 use Rattle.club_rows.proofs.AlikeLemmas.{games-alike}
 use Rattle.club_rows.proofs.KindLemmas.{plies_in}
 use Rattle.club_rows.proofs.ChallengeLemmas.{challenge-rows-alike}
+use Rattle.club_rows.proofs.RulingRowLemmas.{rulings-begin}
 
 -- ---- lists of rows
 
@@ -109,6 +111,10 @@ closing-begins id (Some moment) z (inr h) = absurd h
 pub closings-begin : (id : ℕ) (e : Event) → AllBegin id (rows_of_closing id e)
 closings-begin id e = closing-begins id e.closed
 
+pub rulings_begin : {DM SM : Type 0} (id : ℕ) (any : AnyGame DM SM) → AllBegin id (rows_of_rulings id any)
+rulings_begin id (draughts g) = rulings-begin id 1 g.outside g.rulings
+rulings_begin id (shogi g) = rulings-begin id 1 g.outside g.rulings
+
 -- the timestamp of a closing is told by its row
 closings-alike : (id : ℕ) (a b : Option ℕ)
     → option_to_list (option_map (closing_row id) a) ≡ option_to_list (option_map (closing_row id) b) → a ≡ b
@@ -179,12 +185,13 @@ module _ {DP DM DE DT SP SM SE ST : Type 0} (kinds : ClubRules DP DM DE DT SP SM
     one-alike : {P M E T : Type 0} (rules : GameRules P M E T) → ReadsBack rules → (id : ℕ) (g h : Game M)
         → IsLegalGame rules (terms_at (place events g.event)) g → IsLegalGame rules (terms_at (place events h.event)) h
         → game_row rules (terms_at (place events g.event)) id g ≡ game_row rules (terms_at (place events h.event)) id h
+        → ruling_rows id g ≡ ruling_rows id h
         → move_rows rules (terms_at (place events g.event)) id g
         ≡ move_rows rules (terms_at (place events h.event)) id h → g ≡ h
-    one-alike rules reads id g h this that is moves =
+    one-alike rules reads id g h this that is ruled moves =
         let event : h.event ≡ g.event = cc in
         let terms = ap (λ n. terms_at (place events n)) event in
-        games-alike rules reads (terms_at (place events g.event)) id g h this (rw terms at that) (rw terms at is)
+        games-alike rules reads (terms_at (place events g.event)) id g h this (rw terms at that) (rw terms at is) ruled
         (rw terms at moves)
 
     -- and of two
@@ -194,14 +201,14 @@ module _ {DP DM DE DT SP SM SE ST : Type 0} (kinds : ClubRules DP DM DE DT SP SM
         let event : g.event ≡ h.event = cc in
         absurd cc
 
-    any-alike : (id : ℕ) (x y : AnyGame DM SM) → Stands x → Stands y → row id x ≡ row id y → rows id x ≡ rows id y
-        → x ≡ y
-    any-alike id (draughts g) (draughts h) this that is moves =
-        ap draughts (one-alike kinds.draughts reads-draughts id g h this.0 that.0 is moves)
-    any-alike id (shogi g) (shogi h) this that is moves =
-        ap shogi (one-alike kinds.shogi reads-shogi id g h this.0 that.0 is moves)
-    any-alike id (draughts g) (shogi h) this that is moves = absurd (no-kind id g h this that is)
-    any-alike id (shogi g) (draughts h) this that is moves = absurd (no-kind id h g that this (sym is))
+    any-alike : (id : ℕ) (x y : AnyGame DM SM) → Stands x → Stands y → row id x ≡ row id y
+        → rows_of_rulings id x ≡ rows_of_rulings id y → rows id x ≡ rows id y → x ≡ y
+    any-alike id (draughts g) (draughts h) this that is ruled moves =
+        ap draughts (one-alike kinds.draughts reads-draughts id g h this.0 that.0 is ruled moves)
+    any-alike id (shogi g) (shogi h) this that is ruled moves =
+        ap shogi (one-alike kinds.shogi reads-shogi id g h this.0 that.0 is ruled moves)
+    any-alike id (draughts g) (shogi h) this that is ruled moves = absurd (no-kind id g h this that is)
+    any-alike id (shogi g) (draughts h) this that is ruled moves = absurd (no-kind id h g that this (sym is))
 
     plies-alike : (id : ℕ) (x y : AnyGame DM SM) → row id x ≡ row id y → plies_in x ≡ plies_in y
     plies-alike id x y is = grind arith
@@ -211,18 +218,23 @@ module _ {DP DM DE DT SP SM SE ST : Type 0} (kinds : ClubRules DP DM DE DT SP SM
     rows-long id (shogi g) = rows-count kinds.shogi (terms_at (place events g.event)) id (at_start g) g.entries
 
     all-alike : (id : ℕ) (xs ys : List (AnyGame DM SM)) → Each Stands xs → Each Stands ys
-        → numbered_from row id xs ≡ numbered_from row id ys → gathered_from rows id xs ≡ gathered_from rows id ys
-        → xs ≡ ys
-    all-alike id [] [] these those is moves = refl
-    all-alike id (x ∷ xs) (y ∷ ys) these those is moves =
+        → numbered_from row id xs ≡ numbered_from row id ys
+        → gathered_from rows_of_rulings id xs ≡ gathered_from rows_of_rulings id ys
+        → gathered_from rows id xs ≡ gathered_from rows id ys → xs ≡ ys
+    all-alike id [] [] these those is ruled moves = refl
+    all-alike id (x ∷ xs) (y ∷ ys) these those is ruled moves =
+        let (ruled_here, ruled_later) = apart-alike id (rows_of_rulings id x) (rows_of_rulings id y) _ _
+        (rulings_begin id x) (rulings_begin id y) (none-begins rows_of_rulings rulings_begin id xs)
+        (none-begins rows_of_rulings rulings_begin id ys) ruled in
         let here : row id x ≡ row id y = cc in
         let (front, back) = parts-alike (rows id x) (rows id y) _ _
         (rows-long id x ∙ (plies-alike id x y here ∙ sym (rows-long id y))) moves in
-        let head : x ≡ y = any-alike id x y (these zero x refl) (those zero y refl) here front in
+        let head : x ≡ y = any-alike id x y (these zero x refl) (those zero y refl) here ruled_here front in
         let tail : xs ≡ ys =
-        all-alike (suc id) xs ys (λ n z at. these (suc n) z at) (λ n z at. those (suc n) z at) (cc) back in
+        all-alike (suc id) xs ys (λ n z at. these (suc n) z at) (λ n z at. those (suc n) z at) (cc)
+        ruled_later back in
         λ i. head i ∷ tail i
-    all-alike id xs ys these those is moves = cc
+    all-alike id xs ys these those is ruled moves = cc
 
   stands : {P M E T : Type 0} (rules : GameRules P M E T) (kind : GameKind) (s : State DM SM) (g : Game M)
       → IsGameOf rules kind s g → IsLegalGame rules (terms_at (place s.events g.event)) g
@@ -248,7 +260,7 @@ module _ {DP DM DE DT SP SM SE ST : Type 0} (kinds : ClubRules DP DM DE DT SP SM
       (same 16) (same 22) in
       let games : s.games ≡ t.games =
       all-alike s.events 1 s.games t.games (all-stand s this) (rw (← events) at (all-stand t that))
-      (same 10 ∙ ap (λ es. numbered_from (row_of_game kinds es) 1 t.games) (sym events))
+      (same 10 ∙ ap (λ es. numbered_from (row_of_game kinds es) 1 t.games) (sym events)) (same 20)
       (same 8 ∙ ap (λ es. gathered_from (rows_of_moves kinds es) 1 t.games) (sym events)) in
       let challenges : s.challenges ≡ t.challenges = challenge-rows-alike s.challenges t.challenges (same 6) in
       λ i. record {

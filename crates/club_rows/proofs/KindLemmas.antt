@@ -11,19 +11,21 @@ use Rattle.club_games.specs.internal.DraughtsLaws.{draughts-ends_at_limit}
 use Rattle.club_games.specs.internal.ShogiLaws.{shogi-first_starts, shogi-turn_passes, shogi-same_is}
 use Rattle.club_games.specs.internal.ShogiLaws.{shogi-ends_at_limit}
 use Rattle.club_requests.specs.declared.requests.Caller.{Caller}
+use Rattle.club_requests.specs.declared.rulings.Ruling.{Ruling}
 use Rattle.club_core.specs.Events.{Event}
 use Rattle.club_core.specs.Game.{Game}
 use Rattle.club_core.specs.LegalState.{IsGameOf, IsLegalIn}
 use Rattle.club_requests.specs.Outcome.{map_outcome}
 use Rattle.club_core.specs.declared.seats.Pairing.{Pairing}
 use Rattle.club_core.specs.State.{AnyGame, draughts, shogi, place, kind_at, terms_at, pairing_of, seated, seated_as}
-use Rattle.club_core.specs.State.{with_game, step_game}
-use Rattle.club_core.specs.Step.{GameCommand, game_step}
+use Rattle.club_core.specs.State.{rulings_of, with_game, step_game, step_ruling}
+use Rattle.club_core.specs.Step.{GameCommand, game_step, ruling_step}
 use Rattle.club_core.proofs.Proved.{AreRules, are_rules}
 use Rattle.club_rows.specs.Club.{both_games, ClubGame, ClubState}
 use Rattle.club_rows.specs.Seen.{seen_rows}
 use Rattle.club_rows.specs.Scores.{meetings_of, meetings_in}
-use Rattle.club_rows.specs.Tables.{kind_number, game_row, move_rows, row_of_game, rows_of_moves, rows_of_seen}
+use Rattle.club_rows.specs.Tables.{kind_number, game_row, move_rows, row_of_game, rows_of_moves, rows_of_rulings}
+use Rattle.club_rows.specs.Tables.{rows_of_seen, ruling_rows}
 
 -- the event of a game
 abbrev pub event_in : ClubGame → ℕ
@@ -44,6 +46,8 @@ pub record Kind {P M E T : Type 0} (rules : GameRules P M E T) (kind : GameKind)
       → row_of_game both_games events id (into g) ≡ game_row rules (terms_at (place events g.event)) id g
   pub moves : (events : List Event) (id : ℕ) (g : Game M)
       → rows_of_moves both_games events id (into g) ≡ move_rows rules (terms_at (place events g.event)) id g
+  pub rulings : (id : ℕ) (g : Game M) → rows_of_rulings id (into g) ≡ ruling_rows id g
+  pub given : (g : Game M) → rulings_of (into g) ≡ g.rulings
   pub seen : (id : ℕ) (g : Game M) → rows_of_seen both_games id (into g) ≡ seen_rows rules id g
   pub scores : (g : Game M) → meetings_in both_games (into g) ≡ meetings_of rules g
   pub legal : (s : ClubState) (g : Game M) → IsLegalIn both_games s (into g) → IsGameOf rules kind s g
@@ -57,6 +61,9 @@ pub record Kind {P M E T : Type 0} (rules : GameRules P M E T) (kind : GameKind)
       → step_game both_games s moment id who command (Some (into g))
       ≡ map_outcome (λ new. with_game s moment id (into new))
       (game_step rules (terms_at (place s.events g.event)) g moment who command)
+  pub ruled : (s : ClubState) (moment id number : ℕ) (ruling : Ruling) (g : Game M)
+      → step_ruling both_games s moment id number ruling (Some (into g))
+      ≡ map_outcome (λ new. with_game s moment id (into new)) (ruling_step rules g number ruling moment)
 
 pub back-draughts : (s : ClubState) (any : ClubGame) → IsLegalIn both_games s any
     → kind_at (place s.events (event_in any)) ≡ Draughts → (g : Game DMove) × (any ≡ draughts g)
@@ -85,6 +92,8 @@ in_draughts = record {
   plies = λ g. refl;
   row = λ events id g. refl;
   moves = λ events id g. refl;
+  rulings = λ id g. refl;
+  given = λ g. refl;
   seen = λ id g. refl;
   scores = λ g. refl;
   legal = λ s g is. is;
@@ -92,6 +101,7 @@ in_draughts = record {
   back = back-draughts;
   starts = λ key pairing moment. refl;
   step = λ s moment id who command g. refl;
+  ruled = λ s moment id number ruling g. refl;
 }
 
 abbrev pub in_shogi : Kind both_games.shogi Shogi
@@ -102,6 +112,8 @@ in_shogi = record {
   plies = λ g. refl;
   row = λ events id g. refl;
   moves = λ events id g. refl;
+  rulings = λ id g. refl;
+  given = λ g. refl;
   seen = λ id g. refl;
   scores = λ g. refl;
   legal = λ s g is. is;
@@ -109,6 +121,7 @@ in_shogi = record {
   back = back-shogi;
   starts = λ key pairing moment. refl;
   step = λ s moment id who command g. refl;
+  ruled = λ s moment id number ruling g. refl;
 }
 
 -- kinds with one number are one

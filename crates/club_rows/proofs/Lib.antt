@@ -21,6 +21,7 @@ pub mod StandLemmas
 pub mod WholeLemmas
 pub mod TallyLemmas
 pub mod GatheredLemmas
+pub mod GrantLemmas
 pub mod KeyPairs
 pub mod Proved
 pub mod SeenAfter
@@ -31,3 +32,7 @@ pub mod SeenLine
 pub mod SeenTexts
 pub mod SeenTypes
 pub mod RowViewLemmas
+pub mod ReadLemmas
+pub mod RightRows
+pub mod RuledLemmas
+pub mod RulingRowLemmas

@@ -1,9 +1,7 @@
 -- What a replay keeps with each row.
-use Rattle.std.proofs.Common.{◌≡◌, ℕ, ◌+◌, ◌*◌, ◌≤◌, ◌<◌, List, [], ◌∷◌, ◌++◌, length, cond, None, Some, Ok, subst}
+use Rattle.std.proofs.Common.{◌≡◌, ℕ, ◌+◌, ◌<◌, List, [], ◌∷◌, ◌++◌, length, cond, None, Some, Ok, subst}
 use Rattle.std.proofs.Common.{arith, length-append}
 use Rattle.std.specs.Prelude.{string_bytes}
-use Rattle.squares.specs.declared.sides.Side.{Side}
-use Rattle.squares.specs.Sides.{other}
 use Rattle.club_rules.specs.GameRules.{GameRules}
 use Rattle.club_rules.specs.Laws.{SamePositionIs, TextsTellPositions}
 use Rattle.club_rules.specs.Line.{position_after}
@@ -12,7 +10,7 @@ use Rattle.club_core.proofs.Proved.{line_track-append, IsPlayedLine-append, IsPl
 use Rattle.club_rows.specs.declared.replay.Replayed.{Replayed}
 use Rattle.club_rows.specs.internal.Tally.{IsTallyOf, HasStood, PositionText, same_text, seen_at, stood_then}
 use Rattle.club_rows.specs.internal.Tally.{stood_seldom}
-use Rattle.club_rows.specs.internal.Replay.{IsReplayed, left_in}
+use Rattle.club_rows.specs.internal.Replay.{IsReplayed}
 use Rattle.club_rows.proofs.TallyLemmas.{few-seldom, stood-then, tally-more}
 
 module _ {R P M E T : Type 0} (rules : GameRules P M E T) where
@@ -27,18 +25,15 @@ module _ {R P M E T : Type 0} (rules : GameRules P M E T) where
 
   -- a replay goes on by a legal move
   pub replayed-more : SamePositionIs rules → TextsTellPositions rules
-      → (increment plies : ℕ) (old new : Replayed R P M E T) (turn : Side) (made : M) (position : P)
-      (text : PositionText) → IsReplayed rules increment plies old → plies < 600
+      → (plies : ℕ) (old new : Replayed R P M E T) (made : M) (position : P) (text : PositionText)
+      → IsReplayed rules plies old → plies < 600
       → rules.judge rules.start old.line.items ≡ None → rules.check old.position made ≡ Ok tt
       → position ≡ rules.play old.position made → new.line.items ≡ old.line.items ++ made ∷ [] → new.position ≡ position
-      → left_in new turn ≤ left_in old turn + increment → left_in new (other turn) ≡ left_in old (other turn)
-      → Counts old new made position text → IsReplayed rules increment (plies + 1) new
-  replayed-more same_is tell increment plies old new turn made position text is low running legal played line stands
-      mover rest counts =
+      → Counts old new made position text → IsReplayed rules (plies + 1) new
+  replayed-more same_is tell plies old new made position text is low running legal played line stands counts =
       let ms = old.line.items in
       let more_line : List M = ms ++ made ∷ [] in
       let here = subst (λ p. rules.check p made ≡ Ok tt) is.position legal in
-      let more : 31536000 + increment * plies + increment ≤ 31536000 + increment * (plies + 1) = grind arith in
       let all_legal = IsLegalLine-append rules rules.start ms made is.line.legal here in
       let after = position_after-append rules rules.start ms made in
       let text_is : string_bytes text ≡ rules.write_position (position_after rules rules.start more_line) =
@@ -51,12 +46,20 @@ module _ {R P M E T : Type 0} (rules : GameRules P M E T) where
       let last = stood-then rules same_is tell ms made all_legal old.tally is.counted.tally text text_is in
       let track = line_track-append rules rules.start ms made in
       let played_line = IsPlayedLine-append rules rules.start ms made is.line running here in
-      grind (arith, after, track, tally, last, played_line, more, length-append ms (made ∷ []))
+      grind (arith, after, track, tally, last, played_line, length-append ms (made ∷ []))
 
   -- what stands at the start is a replay of no plies
-  pub start-replayed : (increment : ℕ) (game : Replayed R P M E T) → game.line.items ≡ [] → game.position ≡ rules.start
+  pub start-replayed : (game : Replayed R P M E T) → game.line.items ≡ [] → game.position ≡ rules.start
       → game.track ≡ rules.track_start rules.start → IsTallyOf rules [] game.tally
-      → HasStood rules [] rules.start game.stood → game.left_first ≤ 31536000 → game.left_second ≤ 31536000
-      → IsReplayed rules increment 0 game
-  start-replayed increment game line position track tally stood first second =
-      grind (arith, IsPlayedLine-none rules rules.start)
+      → HasStood rules [] rules.start game.stood → IsReplayed rules 0 game
+  start-replayed game line position track tally stood = grind (arith, IsPlayedLine-none rules rules.start)
+
+  -- a replay is the same with other clocks
+  pub replayed-clocks : (plies : ℕ) (old new : Replayed R P M E T) → IsReplayed rules plies old
+      → new ≡ record old { left_first = new.left_first; left_second = new.left_second } → IsReplayed rules plies new
+  replayed-clocks plies old new is same = rw same (record {
+    line = is.line;
+    position = is.position;
+    counted = record { track = is.counted.track; tally = is.counted.tally; stood = is.counted.stood };
+    plies_are = is.plies_are;
+  })

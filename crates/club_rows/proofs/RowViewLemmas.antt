@@ -12,7 +12,7 @@ use Rattle.club_rules.specs.Laws.{TracksTellEnds, NumbersGiveTracks, WritesPosit
 use Rattle.club_rules.specs.internal.Laws.{IsPositionRead}
 use Rattle.club_core.specs.declared.rows.Asked.{Asked}
 use Rattle.club_core.specs.Events.{Terms}
-use Rattle.club_core.specs.Game.{Entry, Game, clocks_of, moves_of, left_of, side_after, game_at, last_position}
+use Rattle.club_core.specs.Game.{Entry, Game, clocks_then, moves_of, left_of, side_after, game_at, last_position}
 use Rattle.club_core.specs.Game.{rule_end}
 use Rattle.club_core.specs.Legal.{IsLegalGame}
 use Rattle.club_core.specs.Step.{move_at}
@@ -64,7 +64,7 @@ pub record IsPlyRow {P M E T : Type 0} (rules : GameRules P M E T) (terms : Term
   pub made : M
   pub made_is : slice_get (moves_of game) k ≡ Some made
   pub text : string_bytes row.text ≡ rules.write_move (last_position rules (game_at game k)) made
-  pub left : row.left ≡ pos (left_of (side_after k) (clocks_of (game_at game (suc k)) terms))
+  pub left : row.left ≡ pos (left_of (side_after k) (clocks_then (game_at game (suc k)) terms))
   pub position : string_bytes row.position ≡ rules.write_position (last_position rules (game_at game (suc k)))
 
 module _ {P M E T : Type 0} (rules : GameRules P M E T) (are : AreRules rules) (terms : Terms) (id : ℕ) (game : Game M)
@@ -80,7 +80,7 @@ module _ {P M E T : Type 0} (rules : GameRules P M E T) (are : AreRules rules) (
         made = e.made;
         made_is = map-at (λ (x : Entry M). x.made) game.entries k e got.1;
         text = parts.c_is;
-        left = parts.e_is ∙ ap pos (entry-left rules terms id are game legal k e got.1);
+        left = parts.e_is ∙ ap pos (entry-left rules terms id are game legal.line k e got.1);
         position = parts.f_is
             ∙ ap (λ es. rules.write_position (position_after rules rules.start (map (λ x. x.made) es))) more;
       }
@@ -124,7 +124,7 @@ module _ {P M E T : Type 0} (rules : GameRules P M E T) (are : AreRules rules) (
       sym (at ∙ ap (row_at rules terms id game) back) in
       let told = ply-row rules are terms id game legal n row here in
       position-found rules StandsFor writes one (moves_of (game_at game (suc n)))
-      (line-at rules terms id game legal (suc n)) text (is ∙ told.position) found read
+      (line-at rules terms id game legal.line (suc n)) text (is ∙ told.position) found read
       ∙ ap (λ k. Some (last_position rules (game_at game k))) (sym back)
   before-some StandsFor writes one ply low row at text is found read = absurd (omega (arith, low))
 
@@ -154,8 +154,8 @@ module _ {P M E T : Type 0} (rules : GameRules P M E T) (are : AreRules rules) (
       let here : before ≡ last_position rules (game_at game k) = before_is (ap is_some told.made_is)
       ∙ ap (λ n. last_position rules (game_at game n)) back in
       let legal_here = subst (λ p. rules.check p told.made ≡ Ok tt) (sym here)
-      (legal-at rules terms id game legal k told.made told.made_is) in
+      (legal-at rules terms id game legal.line k told.made told.made_is) in
       let text = told.text ∙ ap (λ p. rules.write_move p told.made) (sym here) in
-      let (asked, found_is, played) = shows told.made (left_of (side_after k) (clocks_of (game_at game (suc k)) terms))
+      let (asked, found_is, played) = shows told.made (left_of (side_after k) (clocks_then (game_at game (suc k)) terms))
       legal_here text told.left in
       rw (told.made_is, found_is) (grind (arith, played, here, back))

@@ -1,6 +1,7 @@
 -- The rows of two players after one more game, from the sums of the rows that were found.
 use Rattle.std.proofs.Common.{◌≡◌, ◌≢◌, ℕ, ◌+◌, ◌<◌, ◌≤◌, ◌^◌, List, [], ◌∷◌, ◌++◌, length, Bool, true, false, cond}
-use Rattle.std.proofs.Common.{Option, Some, None, pos, ap, sym, subst, ◌∙◌, arith, inl, inr}
+use Rattle.std.proofs.Common.{Option, Some, None, pos, refl, ap, sym, subst, ◌∙◌, arith, inl, inr}
+use Rattle.std.proofs.Common.{length-append}
 use Rattle.std.specs.Prelude.{count_by}
 use Rattle.std.proofs.lemmas.Bool.{cases_Bool, cases_lt}
 use Rattle.std.proofs.lemmas.List.Sums.{sum_by-append, sum_by-cons, count_by-le-length}
@@ -10,7 +11,7 @@ use Rattle.store_tables.specs.declared.rows.ScoreRow.{ScoreRow}
 use Rattle.store_tables.specs.Content.{same_key}
 use Rattle.club_rows.specs.internal.NextScores.{IsFound, AreNext, Fit, pair_of, pair_cells, gains_of, plus_sums}
 use Rattle.club_rows.specs.internal.NextScores.{sums_found}
-use Rattle.club_rows.specs.internal.NextScores.{sums_over, row_with}
+use Rattle.club_rows.specs.internal.NextScores.{AreChanged, sums_over, row_with, undoing}
 use Rattle.club_rows.specs.Scores.{Meeting, same_pair, scores_of, score_row, score_rows, is_win, is_draw, is_loss}
 use Rattle.club_rows.specs.Scores.{meetings, own_first, own_second}
 use Rattle.club_rows.specs.declared.scores.Pair.{Pair}
@@ -65,6 +66,38 @@ next_row before new after pair own found is one =
     ap (λ s. score_cells (row_with pair (plus_sums s (gains_of own)))) was
     ∙ (ap (λ s. score_cells (row_with pair s)) (gained left right own) ∙ ap (score_row pair) (sym now))
 
+-- ---- another result
+
+pub changed : (left right : List OwnScore) (old own : OwnScore)
+    → plus_sums (plus_sums (sums_over (left ++ (old ∷ right))) (undoing old)) (gains_of own)
+    ≡ sums_over (left ++ (own ∷ right))
+changed left right old own =
+    grind (
+      arith,
+      more is_win left right old,
+      more is_draw left right old,
+      more is_loss left right old,
+      more is_win left right own,
+      more is_draw left right own,
+      more is_loss left right own,
+    )
+
+-- the row of the sums with another score in the place of one
+pub changed_row : (before old new after : List Meeting) (pair : Pair) (one own : OwnScore) (found : Option ScoreRow)
+    → IsFound (score_rows (before ++ (old ++ after))) pair found → scores_of pair old ≡ one ∷ []
+    → scores_of pair new ≡ own ∷ []
+    → score_cells (row_with pair (plus_sums (plus_sums (sums_found found) (undoing one)) (gains_of own)))
+    ≡ row_in (before ++ (new ++ after)) pair
+changed_row before old new after pair one own found is was_one now_one =
+    let left = scores_of pair before in
+    let right = scores_of pair after in
+    let was : sums_found found ≡ sums_over (left ++ (one ∷ right)) = found_sums (before ++ (old ++ after)) pair found is
+    ∙ ap sums_over (scores_between pair before old after ∙ ap (λ ss. left ++ (ss ++ right)) was_one) in
+    let now : scores_of pair (before ++ (new ++ after)) ≡ left ++ (own ∷ right) = scores_between pair before new after
+    ∙ ap (λ ss. left ++ (ss ++ right)) now_one in
+    ap (λ s. score_cells (row_with pair (plus_sums (plus_sums s (undoing one)) (gains_of own)))) was
+    ∙ (ap (λ s. score_cells (row_with pair s)) (changed left right one own) ∙ ap (score_row pair) (sym now))
+
 -- ---- sums that do not fit
 
 pub scores_few : (pair : Pair) (ms : List Meeting) → length (scores_of pair ms) ≤ length ms
@@ -84,6 +117,44 @@ unfit_many ms pair own found is unfit =
       | inl low ↦ absurd (unfit (rw (found_sums ms pair found is) (fit (scores_of pair ms) own low)))
     ]
 
+rest-few : (test : OwnScore → Bool) (left right : List OwnScore)
+    → count_by test (left ++ right) ≤ length left + length right
+rest-few test left right =
+    let most = count_by-le-length test (left ++ right) in
+    let all : length (left ++ right) ≡ length left + length right = simp length-append in
+    omega (arith, most, all)
+
+-- what is left of sums without one result fits, and so does another result in its place but after very many games
+pub rest_fits : (ss : List OwnScore) (left right : List OwnScore) (one : OwnScore) → ss ≡ left ++ (one ∷ right)
+    → length left + length right < 2 ^ 61 → Fit (plus_sums (sums_over ss) (undoing one))
+rest_fits ss left right one is low =
+    rw is
+    (grind (
+      arith,
+      more is_win left right one,
+      more is_draw left right one,
+      more is_loss left right one,
+      rest-few is_win left right,
+      rest-few is_draw left right,
+      rest-few is_loss left right,
+      low,
+    ))
+
+pub changed_fits : (left right : List OwnScore) (one own : OwnScore) → length left + length right < 2 ^ 61
+    → Fit (plus_sums (plus_sums (sums_over (left ++ (one ∷ right))) (undoing one)) (gains_of own))
+changed_fits left right one own low =
+    rw (changed left right one own)
+    (grind (
+      arith,
+      more is_win left right own,
+      more is_draw left right own,
+      more is_loss left right own,
+      rest-few is_win left right,
+      rest-few is_draw left right,
+      rest-few is_loss left right,
+      low,
+    ))
+
 -- ---- both players
 
 ways_apart : (event one other : ℕ) → one ≢ other → same_pair (pair_of event one other) (pair_of event other one) ≡ false
@@ -94,7 +165,7 @@ ways_apart event one other apart = elim (cases_Bool (same_pair (pair_of event on
   | inr differ ↦ differ
 ]
 
-module _ (event first second : ℕ) (score : Score) (apart : first ≢ second) where
+module _ (event first second : ℕ) (score : Option Score) (apart : first ≢ second) where
   abbrev firsts_pair : Pair
   firsts_pair = pair_of event first second
 
@@ -104,10 +175,10 @@ module _ (event first second : ℕ) (score : Score) (apart : first ≢ second) w
   abbrev new : List Meeting
   new = meetings (pos event) (pos first) (pos second) score
 
-  of_first : scores_of firsts_pair new ≡ own_first score ∷ []
+  pub of_first : scores_of firsts_pair new ≡ own_first score ∷ []
   of_first = rw (pair_itself firsts_pair, ways_apart event second first (λ e. apart (sym e)))
 
-  of_second : scores_of seconds_pair new ≡ own_second score ∷ []
+  pub of_second : scores_of seconds_pair new ≡ own_second score ∷ []
   of_second = rw (ways_apart event first second apart, pair_itself seconds_pair)
 
   pub next_rows : (firsts seconds : Option ScoreRow) (rows : ScoreRows)
@@ -120,3 +191,46 @@ module _ (event first second : ℕ) (score : Score) (apart : first ≢ second) w
     of_second = ap score_cells other ∙ next_row before new after seconds_pair (own_second score) seconds found.of_second
         of_second;
   }
+
+module _ (event first second : ℕ) (old new_score : Option Score) (apart : first ≢ second) where
+  pub changed_rows : (firsts seconds : Option ScoreRow) (rows : ScoreRows)
+      → rows.first ≡ row_with (pair_of event first second)
+      (plus_sums (plus_sums (sums_found firsts) (undoing (own_first old))) (gains_of (own_first new_score)))
+      → rows.second ≡ row_with (pair_of event second first)
+      (plus_sums (plus_sums (sums_found seconds) (undoing (own_second old))) (gains_of (own_second new_score)))
+      → AreChanged event first second old new_score firsts seconds rows
+  changed_rows firsts seconds rows one other before after found =
+      let old_ms = meetings (pos event) (pos first) (pos second) old in
+      let new_ms = meetings (pos event) (pos first) (pos second) new_score in
+      record {
+        of_first = ap score_cells one
+            ∙ changed_row before old_ms new_ms after (pair_of event first second) (own_first old)
+            (own_first new_score) firsts found.of_first (of_first event first second old apart)
+            (of_first event first second new_score apart);
+        of_second = ap score_cells other
+            ∙ changed_row before old_ms new_ms after (pair_of event second first) (own_second old)
+            (own_second new_score) seconds found.of_second (of_second event first second old apart)
+            (of_second event first second new_score apart);
+      }
+
+  -- the sums of both players with another score do not fit only after very many games
+  pub changed_many : (before after : List Meeting) (pair : Pair) (one own : OwnScore) (found : Option ScoreRow)
+      → IsFound (score_rows (before ++ (meetings (pos event) (pos first) (pos second) old ++ after))) pair found
+      → scores_of pair (meetings (pos event) (pos first) (pos second) old) ≡ one ∷ []
+      → (Fit (plus_sums (sums_found found) (undoing one))
+      → ¬ Fit (plus_sums (plus_sums (sums_found found) (undoing one)) (gains_of own)))
+      → 2 ^ 61 ≤ length before + length after
+  changed_many before after pair one own found is was_one unfit =
+      let left = scores_of pair before in
+      let right = scores_of pair after in
+      let old_ms = meetings (pos event) (pos first) (pos second) old in
+      let was : sums_found found ≡ sums_over (left ++ (one ∷ right)) =
+      found_sums (before ++ (old_ms ++ after)) pair found is
+      ∙ ap sums_over (scores_between pair before old_ms after ∙ ap (λ ss. left ++ (ss ++ right)) was_one) in
+      elim (cases_lt (length left + length right) (2 ^ 61)) [
+        | inr many ↦ omega (arith, scores_few pair before, scores_few pair after, many)
+        | inl low ↦
+            let rest = rest_fits (left ++ (one ∷ right)) left right one refl low in
+            let whole = changed_fits left right one own low in
+            absurd (unfit (rw was rest) (rw was whole))
+      ]

@@ -1,5 +1,5 @@
 -- The rows of scores of a club, as its games change: what is offered to the crates above.
-use Rattle.std.proofs.Common.{◌≡◌, ℕ, pos, List, [], ◌∷◌, ◌++◌, Option, Some, None, ap, sym, ◌∙◌, arith}
+use Rattle.std.proofs.Common.{◌≡◌, ℕ, pos, List, [], ◌∷◌, ◌++◌, Option, Some, None, refl, ap, sym, ◌∙◌, arith}
 use Rattle.std.specs.Prelude.{slice_get, slice_set}
 use Rattle.std.specs.List.{AllByRecursion, flat_map}
 use Rattle.std.proofs.lemmas.List.{append-nil}
@@ -14,26 +14,30 @@ use Rattle.store_tables.specs.internal.Contents.{AreThose}
 use Rattle.store_tables.specs.declared.rows.ScoreRow.{ScoreRow}
 use Rattle.club_rules.specs.GameRules.{GameRules}
 use Rattle.club_core.specs.ClubRules.{ClubRules}
-use Rattle.club_core.specs.Game.{Game, result_of}
+use Rattle.club_core.specs.declared.rows.GameEnd.{GameEnd}
+use Rattle.club_core.specs.Game.{Game, end_of, result_of}
 use Rattle.club_core.specs.State.{AnyGame}
-use Rattle.club_rows.specs.internal.NextScores.{AreNext, IsFound, pair_cells, pair_of}
+use Rattle.club_rows.specs.internal.NextScores.{AreChanged, AreNext, IsFound, pair_cells, pair_of}
 use Rattle.club_rows.specs.Scores.{Meeting, meetings, meetings_if, meetings_of, meetings_in, score_rows, scores_in}
 use Rattle.club_rows.specs.declared.scores.Pair.{Pair}
 use Rattle.club_rows.specs.declared.scores.ScoreRows.{ScoreRows}
-use Rattle.club_rows.proofs.ScoreRowLemmas.{rows_alter, rows_had, met_between, met_alike, met_last}
+use Rattle.club_rows.proofs.ScoreRowLemmas.{met_alike, met_between, met_instead, met_last, rows_alter, rows_had}
+use Rattle.club_rows.proofs.ScoreRowLemmas.{rows_instead}
 
 -- ---- one game
 
 -- a game that has not ended is met by none
-pub met_running : {P M E T : Type 0} (rules : GameRules P M E T) (game : Game M) → result_of rules game ≡ None
+pub met_running : {P M E T : Type 0} (rules : GameRules P M E T) (game : Game M) → end_of rules game ≡ None
     → meetings_of rules game ≡ []
-met_running rules game running = ap (meetings_if (pos game.event) (pos game.first) (pos game.second)) running
+met_running rules game running =
+    ap (λ e. meetings_if (pos game.event) (pos game.first) (pos game.second) e (result_of rules game)) running
 
 -- one that has ended so is met by both players
-pub met_ended : {P M E T : Type 0} (rules : GameRules P M E T) (game : Game M) (score : Score)
-    → result_of rules game ≡ Some score → meetings_of rules game
+pub met_ended : {P M E T : Type 0} (rules : GameRules P M E T) (game : Game M) (end : GameEnd E) (score : Option Score)
+    → end_of rules game ≡ Some end → result_of rules game ≡ score → meetings_of rules game
     ≡ meetings (pos game.event) (pos game.first) (pos game.second) score
-met_ended rules game score ended = ap (meetings_if (pos game.event) (pos game.first) (pos game.second)) ended
+met_ended rules game end score ended result =
+    λ i. meetings_if (pos game.event) (pos game.first) (pos game.second) (ended i) (result i)
 
 -- ---- what a look for a pair's row finds
 
@@ -67,7 +71,7 @@ module _ {DP DM DE DT SP SM SE ST : Type 0} (kinds : ClubRules DP DM DE DT SP SM
       (λ z has. let (p, met, is) = rows_had (flat_map (meetings_in kinds) games) z has in
       rw is (grind arith))
 
-  module _ (games : List (AnyGame DM SM)) (event first second : ℕ) (score : Score) (firsts seconds : Option ScoreRow)
+  module _ (games : List (AnyGame DM SM)) (event first second : ℕ) (score : Option Score) (firsts seconds : Option ScoreRow)
       (rows : ScoreRows)
       (firsts_is : IsFound (scores_in kinds games) (pair_of event first second) firsts)
       (seconds_is : IsFound (scores_in kinds games) (pair_of event second first) seconds)
@@ -99,3 +103,28 @@ module _ {DP DM DE DT SP SM SE ST : Type 0} (kinds : ClubRules DP DM DE DT SP SM
         let before = flat_map (meetings_in kinds) games in
         ended before [] _ (sym (append-nil before))
         (met_last (meetings_in kinds) games new ∙ ap (λ ms. before ++ ms) (ends ∙ sym (append-nil _)))
+
+  -- where a game that has ended has another score, the rows of its two players are put
+  pub scores_changed : (games : List (AnyGame DM SM)) (event first second : ℕ) (before_score score : Option Score)
+      (firsts seconds : Option ScoreRow) (rows : ScoreRows)
+      → IsFound (scores_in kinds games) (pair_of event first second) firsts
+      → IsFound (scores_in kinds games) (pair_of event second first) seconds
+      → AreChanged event first second before_score score firsts seconds rows → (n : ℕ) (old new : AnyGame DM SM)
+      → slice_get games n ≡ Some old
+      → meetings_in kinds old ≡ meetings (pos event) (pos first) (pos second) before_score
+      → meetings_in kinds new ≡ meetings (pos event) (pos first) (pos second) score
+      → Alters (0 ∷ 1 ∷ 2 ∷ []) (score_cells rows.first ∷ score_cells rows.second ∷ []) (scores_in kinds games)
+      (scores_in kinds (slice_set games n new))
+  scores_changed games event first second before_score score firsts seconds rows firsts_is seconds_is next n old new at
+      was ends =
+      let (before, after, these, those) = met_instead (meetings_in kinds) games n old new at in
+      let here : flat_map (meetings_in kinds) games
+      ≡ before ++ (meetings (pos event) (pos first) (pos second) before_score ++ after) =
+      these ∙ ap (λ ms. before ++ (ms ++ after)) was in
+      let there : flat_map (meetings_in kinds) (slice_set games n new)
+      ≡ before ++ (meetings (pos event) (pos first) (pos second) score ++ after) =
+      those ∙ ap (λ ms. before ++ (ms ++ after)) ends in
+      let are = next before after (record { of_first = rw here at firsts_is; of_second = rw here at seconds_is }) in
+      rw (here, there, are.of_first, are.of_second)
+      (rows_instead before (meetings (pos event) (pos first) (pos second) before_score)
+      (meetings (pos event) (pos first) (pos second) score) after refl)

@@ -208,6 +208,42 @@ module _ (before new after : List Meeting) where
     one = rows_one all;
   }
 
+-- other meetings of the same pairs change the rows of these pairs alone
+pub rows_instead : (before old new after : List Meeting) → pairs_of old ≡ pairs_of new
+    → Alters pair_key (map (row_in (before ++ (new ++ after))) (pairs_of new)) (score_rows (before ++ (old ++ after)))
+    (score_rows (before ++ (new ++ after)))
+rows_instead before old new after same =
+    let was : List Meeting = before ++ (old ++ after) in
+    let now : List Meeting = before ++ (new ++ after) in
+    let pairs : pairs_of now ≡ pairs_of was =
+    all_pairs before new after
+    ∙ (ap (λ ps. pairs_of before ++ (ps ++ pairs_of after)) (sym same) ∙ sym (all_pairs before old after)) in
+    let stay : (p : Pair) → (Has (pairs_of new) p → ⊥) → row_in now p ≡ row_in was p = λ p none.
+    row_stays before new after p none
+    ∙ sym (row_stays before old after p (λ h. none (subst (λ ps. Has ps p) same h))) in
+    record {
+      among = (rows_alter before new after).among;
+      from = λ z h.
+          let (p, has, is) = rows_had now z h in
+          elim (among before new after p (pairs_of new)) [
+            | inl there ↦ inr (rw is (mapped_has (row_in now) (pairs_of new) p there))
+            | inr none ↦ inl (rw (is ∙ stay p none) (rows_has was p (subst (λ ps. Has ps p) pairs has)))
+          ];
+      stays = λ z h.
+          let (p, has, is) = rows_had was z h in
+          elim (among before new after p (pairs_of new)) [
+            | inl there ↦
+                inr (
+                  row_in now p,
+                  mapped_has (row_in now) (pairs_of new) p there,
+                  subst (λ x. same_key pair_key x (row_in now p) ≡ true) (sym is)
+                      (keys_agree p (sums_in was p) (sums_in now p)),
+                )
+            | inr none ↦ inl (rw (is ∙ sym (stay p none)) (rows_has now p (subst (λ ps. Has ps p) (sym pairs) has)))
+          ];
+      one = rows_one now;
+    }
+
 -- ---- the meetings of lists of games
 
 module _ {A : Type 0} (meetings_in : A → List Meeting) where
@@ -224,6 +260,23 @@ module _ {A : Type 0} (meetings_in : A → List Meeting) where
         meetings_in g ++ before,
         after,
         ap (λ ms. meetings_in g ++ ms) was ∙ sym (append_assoc (meetings_in g) before after),
+        ap (λ ms. meetings_in g ++ ms) is ∙ sym (append_assoc (meetings_in g) before (meetings_in new ++ after)),
+      )
+
+  -- where a game stands, the new one's meetings come in the place of its own
+  pub met_instead : (games : List A) (n : ℕ) (old new : A) → slice_get games n ≡ Some old
+      → (before : List Meeting) × (after : List Meeting)
+      × (flat_map meetings_in games ≡ before ++ (meetings_in old ++ after))
+      × (flat_map meetings_in (slice_set games n new) ≡ before ++ (meetings_in new ++ after))
+  met_instead [] n old new at = cc
+  met_instead (g ∷ games) zero old new at =
+      let same : g ≡ old = cc in
+      ([], flat_map meetings_in games, ap (λ ms. ms ++ flat_map meetings_in games) (ap meetings_in same), refl)
+  met_instead (g ∷ games) (suc n) old new at =
+      let (before, after, was, is) = met_instead games n old new at in (
+        meetings_in g ++ before,
+        after,
+        ap (λ ms. meetings_in g ++ ms) was ∙ sym (append_assoc (meetings_in g) before (meetings_in old ++ after)),
         ap (λ ms. meetings_in g ++ ms) is ∙ sym (append_assoc (meetings_in g) before (meetings_in new ++ after)),
       )
 

@@ -15,22 +15,28 @@ use Rattle.club_rules.specs.EndName.{end_text}
 use Rattle.club_rules.specs.GameRules.{GameRules}
 use Rattle.club_rules.specs.Line.{IsLegalLine}
 use Rattle.club_core.specs.declared.rows.GameEnd.{GameEnd}
-use Rattle.club_core.specs.declared.rows.GameEnd.TheVariants.{Rule, Outside}
+use Rattle.club_core.specs.declared.rows.GameEnd.TheVariants.{Rule, Verdict, Outside}
 use Rattle.club_requests.specs.declared.outside_end.OutsideEnd.{OutsideEnd}
 use Rattle.club_requests.specs.declared.outside_end.OutsideEnd.TheVariants.{Resigned}
+use Rattle.club_requests.specs.declared.rulings.Verdict as given_verdict
+use Rattle.club_requests.specs.declared.rulings.Verdict.TheVariants.{Awarded, Voided}
 use Rattle.club_requests.specs.Limits.{is_member_key, is_name}
+use Rattle.club_requests.specs.Rulings.{verdict_in, verdict_text}
 use Rattle.club_core.specs.Members.{Member}
 use Rattle.club_core.specs.Events.{Event, Terms}
-use Rattle.club_core.specs.Game.{Entry, Game, last_position, end_of, result_of}
+use Rattle.club_core.specs.Rulings.{GivenRuling}
+use Rattle.club_core.specs.Game.{Entry, Game, last_position, end_of, result_of, side_after}
 use Rattle.club_core.specs.LegalState.{Each, IsLegalMember, IsLegalEvent, IsLegalIn}
 use Rattle.club_core.specs.State.{draughts, shogi, place, terms_at}
 use Rattle.club_core.proofs.Proved.{last-played}
-use Rattle.store_tables.specs.Cells.{IsText, OrNull, IsMember, IsEvent, IsEventRule, IsMove, IsGame, IsKey, IsClosing}
+use Rattle.store_tables.specs.Cells.{IsText, OrNull, IsMember, IsEvent, IsEventRule, IsMove, IsGame, IsKey, IsRuling}
+use Rattle.store_tables.specs.Cells.{IsClosing}
 use Rattle.club_rows.specs.Club.{ClubGame, ClubState, IsClub, both_games}
-use Rattle.club_requests.specs.OutsideEnd.{outside_text}
+use Rattle.club_requests.specs.OutsideEnd.{outside_score, outside_text}
 use Rattle.club_rows.specs.Tables.{at_start, rule_row, member_row, event_row, game_row, entry_rows, with_entry}
 use Rattle.club_rows.specs.Tables.{end_name_text, numbered_from, gathered_from, row_of_game, rows_of_moves, tables_of}
-use Rattle.club_rows.specs.Tables.{closing_row, key_row, rows_of_closing, rows_of_keys}
+use Rattle.club_rows.specs.Tables.{awarded_score, closing_row, kept_by, key_row, replaced_by, rows_of_closing}
+use Rattle.club_rows.specs.Tables.{rows_of_keys, rows_of_rulings, ruling_row, ruling_rows_from}
 use Rattle.club_rows.proofs.PlainTexts.{is-text, name-plain, key-plain, written, all-append, ArePlain}
 use Rattle.club_rows.proofs.DraughtsTexts.{draughts-plain}
 use Rattle.club_rows.proofs.ShogiTexts.{shogi-plain}
@@ -45,6 +51,10 @@ outside-is_text : (end : OutsideEnd) → IsText (Text (outside_text end))
 outside-is_text Resigned = written (outside_text Resigned) refl
 outside-is_text end = written (outside_text end) refl
 
+verdict-is_text : (v : given_verdict.Verdict) → IsText (Text (verdict_text v))
+verdict-is_text Voided = written (verdict_text Voided) refl
+verdict-is_text (Awarded score) = written (verdict_text (Awarded score)) refl
+
 score-is_text : (score : Score) → IsText (Text (score_text score))
 score-is_text Draw = written (score_text Draw) refl
 score-is_text score = written (score_text score) refl
@@ -58,6 +68,7 @@ or-text f (Some x) each = inr (each x refl)
 
 end-is_text : {P M E T : Type 0} (laws : GameRules P M E T) (end : GameEnd E) → IsText (Text (end_name_text laws end))
 end-is_text laws (Rule e) = end-text (laws.end_name e)
+end-is_text laws (Verdict v) = verdict-is_text v
 end-is_text laws (Outside o) = outside-is_text o
 
 numbered-all : {A : Type 0} (row : ℕ → A → Row) (P : A → Type 0) (Q : Row → Type 0)
@@ -96,6 +107,22 @@ closing-typed : (id : ℕ) (closed : Option ℕ)
     → AllByRecursion IsClosing (option_to_list (option_map (closing_row id) closed))
 closing-typed id None = tt
 closing-typed id (Some moment) = (grind arith, tt)
+
+ruling-typed : (id n : ℕ) (r : GivenRuling) (o : Option OutsideEnd) → IsRuling (ruling_row id n r o)
+ruling-typed id n r o =
+    let result = or-text score_text (awarded_score r.ruling) (λ s is. score-is_text s) in
+    let name = or-text outside_text o (λ e is. outside-is_text e) in
+    let score = or-text (λ e. score_text (outside_score e (side_after r.plies))) o (λ e is.
+    score-is_text (outside_score e (side_after r.plies))) in
+    grind (arith, result, name, score)
+
+ruling-rows-typed : (id n : ℕ) (o : Option OutsideEnd) (rs : List GivenRuling)
+    → AllByRecursion IsRuling (ruling_rows_from id n o rs)
+ruling-rows-typed id n o [] = tt
+ruling-rows-typed id n o (r ∷ rs) = (
+  ruling-typed id n r (replaced_by (verdict_in r.ruling) o),
+  ruling-rows-typed id (suc n) (kept_by (verdict_in r.ruling) o) rs,
+)
 
 module _ {P M E T : Type 0} (laws : GameRules P M E T) (plain : ArePlain laws) where
   game-typed : (terms : Terms) (id : ℕ) (g : Game M) → IfSome g.key (λ k. IsTrue (is_name k))
@@ -155,6 +182,13 @@ module _ (s : ClubState) (club : IsClub s) where
   pub moves-typed : AllByRecursion IsMove (tables_of both_games s 8)
   moves-typed = gathered-all (rows_of_moves both_games s.events) (IsLegalIn both_games s) IsMove any-moves 1 s.games
       club.games
+
+  any-rulings : (id : ℕ) (any : ClubGame) → IsLegalIn both_games s any → AllByRecursion IsRuling (rows_of_rulings id any)
+  any-rulings id (draughts g) legal = ruling-rows-typed id 1 g.outside g.rulings
+  any-rulings id (shogi g) legal = ruling-rows-typed id 1 g.outside g.rulings
+
+  pub rulings-typed : AllByRecursion IsRuling (tables_of both_games s 20)
+  rulings-typed = gathered-all rows_of_rulings (IsLegalIn both_games s) IsRuling any-rulings 1 s.games club.games
 
   pub games-typed : AllByRecursion IsGame (tables_of both_games s 10)
   games-typed = numbered-all (row_of_game both_games s.events) (IsLegalIn both_games s) IsGame any-game 1 s.games

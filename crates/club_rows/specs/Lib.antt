@@ -3,6 +3,7 @@ pub mod EachOnce
 pub mod FirstSchema
 pub mod Listed
 pub mod Replay
+pub mod Rulings
 pub mod Scores
 pub mod Seen
 pub mod LegalRows

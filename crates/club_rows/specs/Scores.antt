@@ -1,4 +1,5 @@
--- The scores of members against opponents in the ended games of an event: 2 points for a win, 1 for a draw.
+-- The scores of members against opponents in the ended games of an event: 2 points for a win, 1 for a draw. A void game
+-- counts for nothing, but its players have met.
 use Rattle.std.specs.Prelude.{◌+◌, ◌*◌, ◌&&◌, ℕ, ℤ, pos, Bool, true, false, not, List, [], ◌∷◌, map, filter, count_by}
 use Rattle.std.specs.Prelude.{Option, Some, None}
 use Rattle.std.specs.Ordering.{int_eq}
@@ -10,11 +11,12 @@ use Rattle.squares.specs.declared.sides.Score.{Score}
 use Rattle.squares.specs.declared.sides.Score.TheVariants as score
 use Rattle.club_rules.specs.GameRules.{GameRules}
 use Rattle.club_core.specs.ClubRules.{ClubRules}
-use Rattle.club_core.specs.Game.{Game, result_of}
+use Rattle.club_core.specs.declared.rows.GameEnd.{GameEnd}
+use Rattle.club_core.specs.Game.{Game, end_of, result_of}
 use Rattle.club_core.specs.State.{AnyGame, draughts, shogi}
 use Rattle.club_rows.specs.declared.scores.Pair.{Pair}
 use Rattle.club_rows.specs.declared.scores.OwnScore.{OwnScore}
-use Rattle.club_rows.specs.declared.scores.OwnScore.TheVariants.{Won, Drew, Lost}
+use Rattle.club_rows.specs.declared.scores.OwnScore.TheVariants.{Won, Drew, Lost, Void}
 
 -- ---- an ended game from each player's side
 
@@ -23,29 +25,31 @@ pub record Meeting : Type 0 where
   pub pair : Pair
   pub score : OwnScore
 
--- First's own result in a game with this score
-abbrev pub own_first : Score → OwnScore
-own_first score.FirstWins = Won
-own_first score.Draw = Drew
-own_first score.SecondWins = Lost
+-- First's own result in an ended game with this score; a void game has none
+abbrev pub own_first : Option Score → OwnScore
+own_first None = Void
+own_first (Some score.FirstWins) = Won
+own_first (Some score.Draw) = Drew
+own_first (Some score.SecondWins) = Lost
 
--- Second's own result in a game with this score
-abbrev pub own_second : Score → OwnScore
-own_second score.FirstWins = Lost
-own_second score.Draw = Drew
-own_second score.SecondWins = Won
+-- Second's own result in an ended game with this score
+abbrev pub own_second : Option Score → OwnScore
+own_second None = Void
+own_second (Some score.FirstWins) = Lost
+own_second (Some score.Draw) = Drew
+own_second (Some score.SecondWins) = Won
 
 -- an ended game from First's side and from Second's
-abbrev pub meetings : (event first second : ℤ) → Score → List Meeting
+abbrev pub meetings : (event first second : ℤ) → Option Score → List Meeting
 meetings event first second score =
     record { pair = record { event = event; member = first; opponent = second }; score = own_first score }
     ∷ record { pair = record { event = event; member = second; opponent = first }; score = own_second score }
     ∷ []
 
--- none for a running game
-abbrev pub meetings_if : (event first second : ℤ) → Option Score → List Meeting
-meetings_if event first second None = []
-meetings_if event first second (Some score) = meetings event first second score
+-- the game from both sides if it has this end; nothing while it is running
+abbrev pub meetings_if : {E : Type 0} → (event first second : ℤ) → Option (GameEnd E) → Option Score → List Meeting
+meetings_if event first second None score = []
+meetings_if event first second (Some end) score = meetings event first second score
 
 -- ---- the sums of a member's results
 
@@ -54,18 +58,21 @@ abbrev pub is_win : OwnScore → Bool
 is_win Won = true
 is_win Drew = false
 is_win Lost = false
+is_win Void = false
 
 -- the member drew
 abbrev pub is_draw : OwnScore → Bool
 is_draw Won = false
 is_draw Drew = true
 is_draw Lost = false
+is_draw Void = false
 
 -- the member lost
 abbrev pub is_loss : OwnScore → Bool
 is_loss Won = false
 is_loss Drew = false
 is_loss Lost = true
+is_loss Void = false
 
 -- the number of wins
 abbrev pub wins : List OwnScore → ℕ
@@ -123,7 +130,8 @@ score_rows ms = map (λ pair. score_row pair (scores_of pair ms)) (once_each (ma
 
 -- the game from both sides if it has ended; nothing while it is running
 abbrev pub meetings_of : {P M E T : Type 0} → GameRules P M E T → Game M → List Meeting
-meetings_of rules game = meetings_if (pos game.event) (pos game.first) (pos game.second) (result_of rules game)
+meetings_of rules game =
+    meetings_if (pos game.event) (pos game.first) (pos game.second) (end_of rules game) (result_of rules game)
 
 module _ {DP DM DE DT SP SM SE ST : Type 0} (rules : ClubRules DP DM DE DT SP SM SE ST) where
   -- the same for a draughts or a shogi game of a club

@@ -8,28 +8,37 @@ use Rattle.sqlite.specs.Values.{or_null}
 use Rattle.sqlite.specs.Order.{Row}
 use Rattle.squares.specs.declared.sides.Side.{Side}
 use Rattle.squares.specs.declared.sides.Side.TheVariants.{First, Second}
+use Rattle.squares.specs.declared.sides.Score.{Score}
 use Rattle.squares.specs.Sides.{score_text}
 use Rattle.club_rules.specs.declared.names.GameKind.{GameKind}
 use Rattle.club_rules.specs.declared.names.GameKind.TheVariants.{Draughts, Shogi}
 use Rattle.club_rules.specs.GameRules.{GameRules}
-use Rattle.club_requests.specs.OutsideEnd.{outside_text}
+use Rattle.club_requests.specs.declared.outside_end.OutsideEnd.{OutsideEnd}
+use Rattle.club_requests.specs.declared.rulings.Ruling.{Ruling}
+use Rattle.club_requests.specs.declared.rulings.Ruling.TheVariants.{Grant, Award, Void}
+use Rattle.club_requests.specs.declared.rulings.Verdict as given_verdict
+use Rattle.club_requests.specs.OutsideEnd.{outside_score, outside_text}
+use Rattle.club_requests.specs.Rulings.{verdict_in, verdict_text}
 use Rattle.club_core.specs.ClubRules.{ClubRules}
 use Rattle.club_rules.specs.EndName.{end_text}
 use Rattle.club_core.specs.declared.challenges.Challenge.{Challenge}
 use Rattle.club_core.specs.declared.challenges.ChallengeState.{ChallengeState}
 use Rattle.club_core.specs.declared.challenges.ChallengeState.TheVariants.{Open, Withdrawn, Refused, Accepted}
 use Rattle.club_core.specs.declared.rows.GameEnd.{GameEnd}
-use Rattle.club_core.specs.declared.rows.GameEnd.TheVariants.{Rule, Outside}
+use Rattle.club_core.specs.declared.rows.GameEnd.TheVariants.{Rule, Verdict, Outside}
 use Rattle.club_core.specs.Members.{Member}
 use Rattle.club_core.specs.Events.{Terms, Event}
 use Rattle.club_rules.specs.Line.{line_numbers}
-use Rattle.club_core.specs.Game.{Entry, Game, clocks_of, moves_of, left_of, last_position, turn_of, end_of, result_of}
+use Rattle.club_core.specs.Rulings.{GivenRuling}
+use Rattle.club_core.specs.Game.{Entry, Game, clocks_of, clocks_then, moves_of, left_of, last_position, turn_of, end_of}
+use Rattle.club_core.specs.Game.{result_of, side_after}
 use Rattle.club_core.specs.State.{AnyGame, draughts, shogi, State, place, terms_at}
 use Rattle.store_tables.specs.Contents.{Content}
 use Rattle.store_tables.specs.Names.{tree_of}
 use Rattle.store_tables.specs.Tables.{schema_number}
 use Rattle.store_tables.specs.declared.names.Table.TheVariants.{Meta, Members, Events, Challenges, Moves}
-use Rattle.store_tables.specs.declared.names.Table.TheVariants.{Games, Seen, Scores, EventRules, Keys, Closings}
+use Rattle.store_tables.specs.declared.names.Table.TheVariants.{Games, Seen, Scores, EventRules, Keys, Rulings}
+use Rattle.store_tables.specs.declared.names.Table.TheVariants.{Closings}
 use Rattle.store_tables.specs.declared.names.Version.{Version}
 use Rattle.store_tables.specs.declared.names.Version.TheVariants.{V2, V3}
 use Rattle.club_rows.specs.Seen.{seen_rows}
@@ -64,6 +73,7 @@ first_number false = 0
 -- the name of an end
 abbrev pub end_name_text : {P M E T : Type 0} → GameRules P M E T → GameEnd E → List ℕ
 end_name_text rules (Rule e) = end_text (rules.end_name e)
+end_name_text rules (Verdict v) = verdict_text v
 end_name_text rules (Outside o) = outside_text o
 
 -- ---- one game
@@ -99,15 +109,15 @@ module _ {P M E T : Type 0} (rules : GameRules P M E T) (terms : Terms) (id : �
       ∷ number (line_numbers rules (moves_of game)).1
       ∷ []
 
-  -- the row of an entry that is played next: the move in notation, the mover's remaining seconds and the position after
-  -- it
+  -- the row of an entry that is played next: the move in notation, the mover's remaining seconds right after it, and
+  -- the position after it
   abbrev pub entry_row : Game M → Entry M → Row
   entry_row game e =
       number id
       ∷ number (length game.entries + 1)
       ∷ Text (rules.write_move (last_position rules game) e.made)
       ∷ number e.moment
-      ∷ number (left_of (turn_of rules game) (clocks_of (with_entry game e) terms))
+      ∷ number (left_of (turn_of rules game) (clocks_then (with_entry game e) terms))
       ∷ Text (rules.write_position (last_position rules (with_entry game e)))
       ∷ []
 
@@ -119,6 +129,63 @@ module _ {P M E T : Type 0} (rules : GameRules P M E T) (terms : Terms) (id : �
   -- the rows of the game's moves
   abbrev pub move_rows : Game M → List Row
   move_rows game = entry_rows (at_start game) game.entries
+
+-- ---- the rulings on a game
+
+-- 0 for a grant to First, 1 for a grant to Second, 2 for an award, 3 for a void game
+abbrev pub ruling_number : Ruling → ℕ
+ruling_number (Grant First seconds) = 0
+ruling_number (Grant Second seconds) = 1
+ruling_number (Award score) = 2
+ruling_number Void = 3
+
+-- the seconds that a ruling grants; 0 if it is no grant
+abbrev pub granted_seconds : Ruling → ℕ
+granted_seconds (Grant side seconds) = seconds
+granted_seconds (Award score) = 0
+granted_seconds Void = 0
+
+-- the score that a ruling awards, if it is an award
+abbrev pub awarded_score : Ruling → Option Score
+awarded_score (Grant side seconds) = None
+awarded_score (Award score) = Some score
+awarded_score Void = None
+
+-- the row of `rulings` of the ruling with this number on the game with this id; `beneath` is the end outside the rules
+-- that it replaces
+abbrev pub ruling_row : (game number : ℕ) → GivenRuling → (beneath : Option OutsideEnd) → Row
+ruling_row game n r beneath =
+    number game
+    ∷ number n
+    ∷ number r.moment
+    ∷ number r.plies
+    ∷ number (ruling_number r.ruling)
+    ∷ number (granted_seconds r.ruling)
+    ∷ or_null (λ score. Text (score_text score)) (awarded_score r.ruling)
+    ∷ or_null (λ end. Text (outside_text end)) beneath
+    ∷ or_null (λ end. Text (score_text (outside_score end (side_after r.plies)))) beneath
+    ∷ []
+
+-- the end outside the rules that a ruling with this verdict replaces
+abbrev pub replaced_by : Option given_verdict.Verdict → Option OutsideEnd → Option OutsideEnd
+replaced_by None outside = None
+replaced_by (Some verdict) outside = outside
+
+-- the end outside the rules that the next ruling can still replace
+abbrev pub kept_by : Option given_verdict.Verdict → Option OutsideEnd → Option OutsideEnd
+kept_by None outside = outside
+kept_by (Some verdict) outside = None
+
+-- the rows of these rulings with consecutive numbers; only the first verdict replaces the end outside the rules
+abbrev pub ruling_rows_from : (game number : ℕ) → Option OutsideEnd → List GivenRuling → List Row
+ruling_rows_from game n outside [] = []
+ruling_rows_from game n outside (r ∷ rs) =
+    ruling_row game n r (replaced_by (verdict_in r.ruling) outside)
+    ∷ ruling_rows_from game (suc n) (kept_by (verdict_in r.ruling) outside) rs
+
+-- the rows of `rulings` of the game with this id; rulings are numbered from 1
+abbrev pub ruling_rows : {M : Type 0} → ℕ → Game M → List Row
+ruling_rows id game = ruling_rows_from id 1 game.outside game.rulings
 
 -- ---- a club
 
@@ -189,6 +256,11 @@ rows_of_keys id m = numbered_from (key_row id) 1 m.later
 abbrev pub rows_of_closing : ℕ → Event → List Row
 rows_of_closing id e = option_to_list (option_map (closing_row id) e.closed)
 
+-- the rows of `rulings` of the game with this id
+abbrev pub rows_of_rulings : {DM SM : Type 0} → ℕ → AnyGame DM SM → List Row
+rows_of_rulings id (draughts g) = ruling_rows id g
+rows_of_rulings id (shogi g) = ruling_rows id g
+
 -- the schema version of a club: schema 3 if it has an arbiter, otherwise schema 2
 abbrev pub version_of : {DM SM : Type 0} → State DM SM → Version
 version_of s = if s.has_arbiter then V3 else V2
@@ -223,5 +295,6 @@ module _ {DP DM DE DT SP SM SE ST : Type 0} (rules : ClubRules DP DM DE DT SP SM
       else (if t == tree_of Scores then scores_in rules s.games
       else (if t == tree_of EventRules then numbered_from rule_row 1 s.events
       else (if t == tree_of Keys then gathered_from rows_of_keys 1 s.members
+      else (if t == tree_of Rulings then gathered_from rows_of_rulings 1 s.games
       else (if t == tree_of Closings then gathered_from rows_of_closing 1 s.events
-      else []))))))))))
+      else [])))))))))))

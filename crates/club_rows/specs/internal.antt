@@ -7,5 +7,7 @@ pub mod NextScores
 pub mod Pairs
 pub mod Replay
 pub mod RowView
+pub mod Ruled
+pub mod Rulings
 pub mod Seen
 pub mod Tally

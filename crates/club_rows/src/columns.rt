@@ -1,14 +1,12 @@
 //! Converts the row of a game to typed columns.
 
-ghost use Rattle.std.specs.Prelude.{◌≡◌, ◌≢◌, ◌≤◌, ◌<◌, ◌^◌, ℕ, pos, Option, None, IfSome, string_bytes};
+ghost use Rattle.std.specs.Prelude.{◌≡◌, ◌≤◌, ◌<◌, ◌^◌, ℕ, pos, Option, None, IfSome, string_bytes};
 ghost use Rattle.std.specs.Option.{option_map};
-ghost use Rattle.squares.specs.declared.sides.Score.{Score};
-ghost use Rattle.squares.specs.Sides.{score_text};
 ghost use Rattle.club_core.specs.declared.rows.Offer.{Offer};
 ghost use Rattle.store_tables.specs.Cells.{game_cells};
 ghost use Rattle.club_rows.specs.internal.Columns.{HasOffer, IsReadAs};
 
-use crate::ends::{score_of, side_of};
+use crate::ends::{optional_score, side_of};
 use crate::numbers;
 use clocks::Moment;
 use club_core::Offer;
@@ -76,22 +74,6 @@ fn offer_in(row: &GameTableRow) -> Option<Option<Offer>>
     }
 }
 
-// Parses column `result`; Some(None) if it is NULL. None if the text is not a score.
-fn result_in(row: &GameTableRow) -> Option<Option<Score>>
-    ensures some { IfSome result (λ score. option_map (λ s. string_bytes s) row.now.result
-        ≡ option_map score_text score) }
-    ensures none { result ≡ None → (score : Option Score) → option_map (λ s. string_bytes s) row.now.result
-        ≢ option_map score_text score }
-{
-    match &row.result {
-        Some(text) => {
-            let score = score_of(text.as_str())?;
-            Some(Some(score))
-        }
-        None => Some(None),
-    }
-}
-
 /// Converts the row of a game. None if a value is out of range.
 pub fn stored_game(row: &GameTableRow) -> Option<GameColumns<'_>>
     ensures { IsReadAs (game_cells row.now) result }
@@ -106,7 +88,7 @@ pub fn stored_game(row: &GameTableRow) -> Option<GameColumns<'_>>
     let left_first = numbers::to_u64(row.left1)?;
     let left_second = numbers::to_u64(row.left2)?;
     let offer = offer_in(row)?;
-    let result = result_in(row)?;
+    let result = optional_score(&row.result)?;
     let track_first = numbers::at_most(row.track_a, MOST_TRACK)?;
     let track_second = numbers::at_most(row.track_b, MOST_TRACK)?;
     Some(GameColumns {

@@ -18,7 +18,7 @@ pub fn legal_texts<R: Rules>(alloc: Global, view: &GameView<R>) -> Result<Vec<St
     ensures { IfOk result (λ texts. (game : Game R.Move) → Shows R.rules game view.now →
         AreLegalTexts R.rules game (map (λ t. string_bytes t) texts.items)) }
 {
-    if view.row.result.is_some() {
+    if view.row.end.is_some() {
         return Ok(Vec::new(alloc));
     }
     let moves = R::legal(alloc, &view.position)?;

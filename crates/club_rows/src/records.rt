@@ -37,7 +37,7 @@ pub fn to_owned_text(alloc: Global, text: Option<&str>) -> Result<Option<String>
 }
 
 // The text of an optional score.
-fn score_text(alloc: Global, score: Option<Score>) -> Result<Option<String>, Memory>
+pub(crate) fn owned_score(alloc: Global, score: Option<Score>) -> Result<Option<String>, Memory>
     ensures { IfOk result (λ text. option_map (λ s. string_bytes s) text ≡ option_map score_text score) }
 {
     match score {
@@ -91,7 +91,7 @@ pub fn record_of<R: Rules>(
 {
     let key = copy_key(&row.key)?;
     let end = end_text::<R>(alloc, row)?;
-    let result = score_text(alloc, row.result)?;
+    let result = owned_score(alloc, row.result)?;
     let position = row.position.clone()?;
     Ok(GameTableRow {
         id: i64::from(id),

@@ -3,20 +3,26 @@
 
 ghost use Rattle.std.specs.Prelude.{◌≡◌, ◌≢◌, ◌≤◌, ◌<◌, ◌+◌, ◌++◌, ◌∷◌, [], ◌^◌, ℕ, IfOk, IfSome, IsTrue, None};
 ghost use Rattle.std.specs.Prelude.{Some, Ok, Bool, cond, length, is_some, string_bytes};
+ghost use Rattle.squares.specs.declared.sides.Side.TheVariants.{First, Second};
 ghost use Rattle.squares.specs.Sides.{other};
 ghost use Rattle.club_rules.specs.Line.{IsPlayedLine, line_track, position_after};
 ghost use Rattle.club_requests.specs.Limits.{is_budget, is_increment};
-ghost use Rattle.club_core.specs.Game.{Game, Entry};
+ghost use Rattle.club_core.specs.Game.{Game, Entry, clocks_of, clocks_then};
 ghost use Rattle.club_rows.specs.Tables.{with_entry};
 ghost use Rattle.club_rows.specs.internal.Tally.{PositionText, same_text, seen_at, stood_then, stood_seldom};
 ghost use Rattle.club_rows.specs.internal.Replay.{IsCounted, IsReplayed, TakesTime, IsNext, Replays, Follows};
 ghost use Rattle.club_rows.specs.internal.Replay.{WasReplayed};
 ghost use Rattle.club_rows.specs.Replay.{IsPlayedAs};
+ghost use Rattle.club_rows.specs.Rulings.{ArePossible};
+ghost use Rattle.club_rows.specs.internal.Replay.{HasRoom, grants_to, granted_by};
+ghost use Rattle.club_rows.specs.internal.Rulings.{given_of, rulings_given};
 ghost use Rattle.club_rows.specs.internal.Replay.{left_in, clocks_replayed, terms_with, terms_given};
 
 use crate::numbers::{to_i64, to_moment};
 use crate::tally::{Occurrences, PositionCounts};
 use clocks::{Clock, Moment};
+use club_core::GivenRuling;
+use club_requests::Ruling;
 use club_requests::values::{MOST_PLIES, is_budget, is_increment};
 use club_rules::{Memory, Rules};
 use squares::Side;
@@ -30,6 +36,14 @@ pub struct Terms {
     pub budget: u64,
     pub increment: u64,
     pub declares: bool,
+}
+
+/// A game before its first move.
+#[derive(Clone, Copy, Debug, PartialEq, Eq)]
+pub struct Opening {
+    pub id: u32,
+    pub start: Moment,
+    pub terms: Terms,
 }
 
 /// A game after the rows replayed so far.
@@ -59,8 +73,12 @@ pub struct Next<R: Rules> {
     pub left: u64,
 }
 
-// Parses the text of a row as a legal move. None if it is illegal, or not written exactly as the rules write it.
-pub(crate) fn move_of<R: Rules>(
+/// Parses the text of a row as a legal move. None if it is illegal, or not written exactly as the rules write it.
+///
+/// # Errors
+///
+/// `Memory` if out of memory.
+pub fn move_of<R: Rules>(
     alloc: Global,
     position: &R::Position,
     text: &str,
@@ -103,8 +121,7 @@ fn clock<R: Rules>(game: &Replayed<R>, side: Side, increment: u64) -> Clock
 
 // The game before its first move.
 fn start<R: Rules>(alloc: Global, budget: u64, start: Moment) -> Result<Replayed<R>, Memory>
-    requires { budget ≤ 31536000 }
-    ensures safe { IfOk result (λ game. (increment : ℕ) → IsReplayed R.rules increment 0 game) }
+    ensures safe { IfOk result (IsReplayed R.rules 0) }
     ensures clocks { IfOk result (λ game. clocks_replayed game
         ≡ record { left_first = budget; left_second = budget; since = start }) }
     ensures line { IfOk result (λ game. game.line.items ≡ []) }
@@ -277,15 +294,18 @@ fn with_row<R: Rules>(
 ) -> Result<Option<Replayed<R>>, Memory>
     requires increment { increment ≤ 2592000 }
     requires room { length game.line.items < 600 }
-    requires game { IsReplayed R.rules increment (length game.line.items) game }
-    ensures safe { IfOk result (λ found. IfSome found (λ new. IsReplayed R.rules increment
-        (length game.line.items + 1) new)) }
+    requires left { game.left_first + game.left_second < 2 ^ 62 }
+    requires game { IsReplayed R.rules (length game.line.items) game }
+    ensures safe { IfOk result (λ found. IfSome found (IsReplayed R.rules (length game.line.items + 1))) }
+    ensures first { IfOk result (λ found. IfSome found (λ new. new.left_first ≤ game.left_first + increment)) }
+    ensures second { IfOk result (λ found. IfSome found (λ new. new.left_second ≤ game.left_second + increment)) }
     ensures some { IfOk result (λ found. IfSome found (λ new. (budget : ℕ) (declares : Bool) (old : Game R.Move) →
-        Replays R.rules (terms_with budget increment declares) old game →
+        Replays R.rules old (clocks_of old (terms_with budget increment declares)) game →
         (e : Entry R.Move) × Follows R.rules (terms_with budget increment declares) id old row.now e
-        × Replays R.rules (terms_with budget increment declares) (with_entry old e) new)) }
+        × Replays R.rules (with_entry old e)
+        (clocks_then (with_entry old e) (terms_with budget increment declares)) new)) }
     ensures none { IfOk result (λ found. found ≡ None → (budget : ℕ) (declares : Bool) (old : Game R.Move) →
-        Replays R.rules (terms_with budget increment declares) old game → (e : Entry R.Move) →
+        Replays R.rules old (clocks_of old (terms_with budget increment declares)) game → (e : Entry R.Move) →
         ¬ Follows R.rules (terms_with budget increment declares) id old row.now e) }
 {
     match next_of::<R>(alloc, &game, increment, id, row)? {
@@ -297,45 +317,96 @@ fn with_row<R: Rules>(
     }
 }
 
-/// Replays the rows of a game's moves, in the order of plies. None if no legal game with these terms and this start has
-/// exactly these rows, or a term is outside its limits.
+// The seconds that a ruling grants to this side after so many plies.
+fn granted_by(ruling: &GivenRuling, side: Side, plies: u64) -> u64
+    ensures { result ≡ granted_by side plies (given_of ruling.now) }
+{
+    if ruling.plies != plies {
+        return 0;
+    }
+    match ruling.ruling {
+        Ruling::Grant { side: to, seconds } => { if to == side { seconds } else { 0 } }
+        Ruling::Award(_) => 0,
+        Ruling::Void => 0,
+    }
+}
+
+// The seconds of a side with what these rulings grant after so many plies.
+fn with_grants(left: u64, side: Side, plies: u64, rulings: &[GivenRuling]) -> u64
+    requires { left + grants_to side plies (rulings_given rulings.now) < 2 ^ 63 }
+    ensures { result ≡ left + grants_to side plies (rulings_given rulings.now) }
+{
+    let mut sum = left;
+    for ruling in rulings {
+        sum += granted_by(ruling, side, plies);
+    }
+    sum
+}
+
+// The game with the time that was granted since its last move.
+fn granted<R: Rules>(game: Replayed<R>, rulings: &[GivenRuling]) -> Replayed<R>
+    requires first { game.left_first + grants_to First (length game.line.items) (rulings_given rulings.now) < 2 ^ 63 }
+    requires second { game.left_second + grants_to Second (length game.line.items) (rulings_given rulings.now)
+        < 2 ^ 63 }
+    ensures first { result.left_first ≡
+        game.left_first + grants_to First (length game.line.items) (rulings_given rulings.now) }
+    ensures second { result.left_second ≡
+        game.left_second + grants_to Second (length game.line.items) (rulings_given rulings.now) }
+    ensures others { result ≡ record game { left_first = result.left_first; left_second = result.left_second } }
+{
+    let plies = game.line.len() as u64;
+    let left_first = with_grants(game.left_first, Side::First, plies, rulings);
+    let left_second = with_grants(game.left_second, Side::Second, plies, rulings);
+    let mut new = game;
+    new.left_first = left_first;
+    new.left_second = left_second;
+    new
+}
+
+/// Replays the rows of a game's moves, in the order of plies, with the time that these rulings granted. None if no game
+/// with this opening and these rulings has exactly these rows, or a term is outside its limits.
 ///
 /// # Errors
 ///
 /// `Memory` if out of memory.
 pub fn replay<R: Rules>(
     alloc: Global,
-    terms: Terms,
-    id: u32,
-    from: Moment,
+    opening: Opening,
+    rulings: &[GivenRuling],
     rows: &[MoveRow],
 ) -> Result<Option<Replayed<R>>, Memory>
-    ensures safe { IfOk result (λ found. IfSome found (λ game. (terms.budget ≤ 31536000) × (terms.increment ≤ 2592000)
-        × (length rows.now ≤ 600)
-        × IsReplayed R.rules terms.increment (length rows.now) game)) }
-    ensures terms { IfOk result (λ found. IfSome found (λ game. IsTrue (is_budget terms.budget)
-        × IsTrue (is_increment terms.increment))) }
+    requires { ArePossible (rulings_given rulings.now) }
+    ensures safe { IfOk result (λ found. IfSome found (IsReplayed R.rules (length rows.now))) }
+    ensures short { IfOk result (λ found. IfSome found (λ game. length rows.now ≤ 600)) }
+    ensures room { IfOk result (λ found. IfSome found (λ game. HasRoom (clocks_replayed game))) }
+    ensures terms { IfOk result (λ found. IfSome found (λ game. IsTrue (is_budget opening.terms.budget)
+        × IsTrue (is_increment opening.terms.increment))) }
     ensures some { IfOk result (λ found. IfSome found (λ game. WasReplayed R.rules
-        (terms_given terms) id from rows.now (length rows.now) game)) }
-    ensures none { IfOk result (λ found. found ≡ None → IsTrue (is_budget terms.budget) →
-        IsTrue (is_increment terms.increment) →
-        (game : Game R.Move) → ¬ IsPlayedAs R.rules (terms_given terms) id from rows.now game) }
+        (terms_given opening.terms) opening.id (rulings_given rulings.now) opening.start rows.now
+        (length rows.now) game)) }
+    ensures none { IfOk result (λ found. found ≡ None → IsTrue (is_budget opening.terms.budget) →
+        IsTrue (is_increment opening.terms.increment) →
+        (game : Game R.Move) → game.rulings ≡ rulings_given rulings.now →
+        ¬ IsPlayedAs R.rules (terms_given opening.terms) opening.id opening.start rows.now game) }
 {
-    if !is_budget(terms.budget) {
+    if !is_budget(opening.terms.budget) {
         return Ok(None);
     }
-    if !is_increment(terms.increment) {
+    if !is_increment(opening.terms.increment) {
         return Ok(None);
     }
     if rows.len() > MOST_PLIES as usize {
         return Ok(None);
     }
-    let mut game = start(alloc, terms.budget, from)?;
+    let begun = start(alloc, opening.terms.budget, opening.start)?;
+    let mut game = granted::<R>(begun, rulings);
     for row in rows {
-        game = match with_row::<R>(alloc, game, terms.increment, id, row)? {
-            Some(game) => game,
+        let next = match with_row::<R>(alloc, game, opening.terms.increment, opening.id, row)? {
+            Some(next) => next,
             None => return Ok(None),
         };
+        let more = granted(next, rulings);
+        game = more;
     }
     Ok(Some(game))
 }

@@ -12,18 +12,50 @@ ghost use Rattle.club_rows.specs.internal.Replay.{terms_given};
 ghost use Rattle.club_rows.specs.internal.Columns.{columns_in, columns_of};
 ghost use Rattle.club_rows.specs.internal.RowView.{HasLastStood, AreRowsAt, IsPlayed};
 ghost use Rattle.club_rows.specs.internal.LegalRows.{IsRecordOf};
+ghost use Rattle.club_rows.specs.internal.Rulings.{IsBeneath};
+ghost use Rattle.club_requests.specs.declared.rulings.Verdict as verdicts;
+ghost use Rattle.club_requests.specs.Rulings.{verdict_score, verdict_text};
 
 use crate::columns::{GameColumns, stored_game};
 use crate::numbers::to_u64;
 use crate::records::to_owned_text;
 use crate::replay::{Terms, move_of};
 use crate::tally::Occurrences;
-use crate::view::{end_in, score_of_end};
+use crate::view::{end_with, outside_in, score_of_end};
 use club_core::{Asked, GameRow, GameView};
 use club_requests::values::{MOST_PLIES, is_increment};
+use club_requests::{OutsideEnd, Verdict};
 use club_rules::{Memory, Rules};
+use squares::Score;
 use std::alloc::Global;
 use store_tables::{GameTableRow, MoveRow};
+
+// The verdict that the row names.
+fn verdict_in(stored: &GameColumns<'_>) -> Option<Verdict>
+    ensures found { (v : verdicts.Verdict) → (columns_in stored.now).end ≡ Some (verdict_text v) →
+        (columns_in stored.now).result ≡ verdict_score v → result ≡ Some v }
+    ensures only { IfSome result (λ v. (columns_in stored.now).end ≡ Some (verdict_text v)) }
+{
+    match stored.end {
+        Some(name) => verdict_with(name, stored.result),
+        None => None,
+    }
+}
+
+// The verdict with this name and this score.
+fn verdict_with(name: &str, score: Option<Score>) -> Option<Verdict>
+    ensures found { (v : verdicts.Verdict) → name.now ≡ verdict_text v → score ≡ verdict_score v → result ≡ Some v }
+    ensures only { IfSome result (λ v. name.now ≡ verdict_text v) }
+{
+    match name {
+        "Awarded" => match score {
+            Some(score) => Some(Verdict::Awarded(score)),
+            None => None,
+        },
+        "Void" => Some(Verdict::Voided),
+        _ => None,
+    }
+}
 
 // Converts the stored row to the row of the game logic; `stood` is the repetition count of the last position.
 fn row_in<R: Rules>(
@@ -31,13 +63,14 @@ fn row_in<R: Rules>(
     stored: &GameColumns<'_>,
     position: &R::Position,
     stood: Occurrences,
+    beneath: Option<OutsideEnd>,
 ) -> Result<GameRow<R::End>, Memory>
     ensures plies { IfOk result (λ new. new.plies ≡ stored.now.plies) }
     ensures left_first { IfOk result (λ new. new.left_first ≡ stored.now.left_first) }
     ensures left_second { IfOk result (λ new. new.left_second ≡ stored.now.left_second) }
     ensures shows { IfOk result (λ new. (terms : core.Terms) (id : ℕ) (game : Game R.Move) →
         IsLegalGame R.rules terms game → columns_in stored.now ≡ columns_of R.rules terms id game →
-        position.now ≡ last_position R.rules game → HasLastStood R.rules game stood →
+        position.now ≡ last_position R.rules game → HasLastStood R.rules game stood → IsBeneath game beneath →
         IsRowOf R.rules terms game new) }
 {
     let (first, second) = stored.track;
@@ -49,7 +82,9 @@ fn row_in<R: Rules>(
         stood.times,
         stood.first_ply,
     );
-    let end = end_in(stored, ruled);
+    let verdict = verdict_in(stored);
+    let outside = outside_in(stored, ruled, verdict, beneath);
+    let end = end_with(ruled, verdict, outside);
     let result = score_of_end::<R>(&end, R::turn(position));
     Ok(GameRow {
         key: to_owned_text(alloc, stored.key)?,
@@ -63,14 +98,16 @@ fn row_in<R: Rules>(
         left_second: stored.left_second,
         track: stored.track,
         offer: stored.offer,
+        outside,
         end,
         result,
         position: String::from_str(alloc, stored.position)?,
     })
 }
 
-/// Builds the view of a game from its row, without a ply; `stood` is the repetition count of its last position. None if
-/// no game with these terms has this row.
+/// Builds the view of a game from its row, without a ply; `stood` is the repetition count of its last position,
+/// `beneath` the end outside the rules beneath a verdict, if there is a verdict (`has_verdict`). None if no game with
+/// these terms has this row.
 ///
 /// # Errors
 ///
@@ -84,12 +121,13 @@ pub fn view_of_row<R: Rules>(
     row: &GameTableRow,
     terms: Terms,
     stood: Occurrences,
+    beneath: Option<OutsideEnd>,
 ) -> Result<Option<GameView<R>>, Memory>
     ensures sound { IfOk result (λ found. IfSome found (IsSound R.rules)) }
     ensures terms { IfOk result (λ found. IfSome found (λ view. terms_of view ≡ terms_given terms)) }
     ensures shows { IfOk result (λ found. IfSome found (λ view. (id : ℕ) (game : Game R.Move) →
         IsRecordOf R.rules (terms_given terms) id row.now game → HasLastStood R.rules game stood →
-        Shows R.rules game view)) }
+        IsBeneath game beneath → Shows R.rules game view)) }
     ensures found { IfOk result (λ found. (id : ℕ) (game : Game R.Move) →
         IsRecordOf R.rules (terms_given terms) id row.now game → IsSome found) }
 {
@@ -104,7 +142,7 @@ pub fn view_of_row<R: Rules>(
         Some(position) => position,
         None => return Ok(None),
     };
-    let new = row_in::<R>(alloc, &stored, &position, stood)?;
+    let new = row_in::<R>(alloc, &stored, &position, stood, beneath)?;
     let (first, second) = stored.track;
     Ok(Some(GameView {
         row: new,

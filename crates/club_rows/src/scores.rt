@@ -1,11 +1,11 @@
 //! Scores of members against opponents in the ended games of an event (a cross table's cells).
 
-ghost use Rattle.std.specs.Prelude.{◌≡◌, ◌≢◌, ◌≤◌, ◌^◌, List, None, length, IfSome};
+ghost use Rattle.std.specs.Prelude.{◌≡◌, ◌≢◌, ◌≤◌, ◌+◌, ◌^◌, ◌++◌, List, None, pos, length, IfSome};
 ghost use Rattle.std.specs.Option.{option_map};
-ghost use Rattle.club_rows.specs.internal.NextScores.{AreFound, AreNext, Fit};
-ghost use Rattle.club_rows.specs.internal.NextScores.{gains_of, pair_of, plus_sums, sums_found, row_with};
+ghost use Rattle.club_rows.specs.internal.NextScores.{AreChanged, AreFound, AreNext, Fit};
+ghost use Rattle.club_rows.specs.internal.NextScores.{gains_of, pair_of, plus_sums, sums_found, row_with, undoing};
 ghost use Rattle.club_rows.specs.internal.Pairs.{firsts_pair, pair_in, seconds_pair};
-ghost use Rattle.club_rows.specs.Scores.{Meeting, own_first, own_second};
+ghost use Rattle.club_rows.specs.Scores.{Meeting, meetings, own_first, own_second};
 
 use club_core::Pairing;
 use squares::Score;
@@ -58,28 +58,32 @@ pub enum OwnScore {
     Won,
     Drew,
     Lost,
+    /// The game does not count.
+    Void,
 }
 
 impl OwnScore {
-    /// First's result.
-    pub fn of_first(score: Score) -> OwnScore
+    /// First's result in an ended game; a void game has no score.
+    pub fn of_first(score: Option<Score>) -> OwnScore
         ensures { result ≡ own_first score }
     {
         match score {
-            Score::FirstWins => OwnScore::Won,
-            Score::Draw => OwnScore::Drew,
-            Score::SecondWins => OwnScore::Lost,
+            Some(Score::FirstWins) => OwnScore::Won,
+            Some(Score::Draw) => OwnScore::Drew,
+            Some(Score::SecondWins) => OwnScore::Lost,
+            None => OwnScore::Void,
         }
     }
 
-    /// Second's result.
-    pub fn of_second(score: Score) -> OwnScore
+    /// Second's result in an ended game; a void game has no score.
+    pub fn of_second(score: Option<Score>) -> OwnScore
         ensures { result ≡ own_second score }
     {
         match score {
-            Score::FirstWins => OwnScore::Lost,
-            Score::Draw => OwnScore::Drew,
-            Score::SecondWins => OwnScore::Won,
+            Some(Score::FirstWins) => OwnScore::Lost,
+            Some(Score::Draw) => OwnScore::Drew,
+            Some(Score::SecondWins) => OwnScore::Won,
+            None => OwnScore::Void,
         }
     }
 }
@@ -108,6 +112,25 @@ pub fn gains(score: OwnScore) -> ScoreSums
         OwnScore::Won => (2, 1, 0, 0),
         OwnScore::Drew => (1, 0, 1, 0),
         OwnScore::Lost => (0, 0, 0, 1),
+        OwnScore::Void => (0, 0, 0, 0),
+    };
+    ScoreSums {
+        points,
+        wins,
+        draws,
+        losses,
+    }
+}
+
+/// The sums that take one result back.
+pub fn undoing(score: OwnScore) -> ScoreSums
+    ensures { result ≡ undoing score }
+{
+    let (points, wins, draws, losses) = match score {
+        OwnScore::Won => (-2, -1, 0, 0),
+        OwnScore::Drew => (-1, 0, -1, 0),
+        OwnScore::Lost => (0, 0, 0, -1),
+        OwnScore::Void => (0, 0, 0, 0),
     };
     ScoreSums {
         points,
@@ -154,6 +177,20 @@ pub fn add_sums(sums: ScoreSums, more: ScoreSums) -> Option<ScoreSums>
     })
 }
 
+fn row_with(pair: Pair, sums: ScoreSums) -> ScoreRow
+    ensures { result ≡ row_with pair sums }
+{
+    ScoreRow {
+        event: pair.event,
+        member: pair.member,
+        opponent: pair.opponent,
+        points: sums.points,
+        wins: sums.wins,
+        draws: sums.draws,
+        losses: sums.losses,
+    }
+}
+
 // The row of a pair after one more result.
 fn row_after(pair: Pair, found: Option<&ScoreRow>, score: OwnScore) -> Option<ScoreRow>
     ensures some { IfSome result (λ row.
@@ -162,15 +199,25 @@ fn row_after(pair: Pair, found: Option<&ScoreRow>, score: OwnScore) -> Option<Sc
         ¬ Fit (plus_sums (sums_found (option_map (λ r. r.now) found.entry)) (gains_of score)) }
 {
     let sums = add_sums(sums_of(found), gains(score))?;
-    Some(ScoreRow {
-        event: pair.event,
-        member: pair.member,
-        opponent: pair.opponent,
-        points: sums.points,
-        wins: sums.wins,
-        draws: sums.draws,
-        losses: sums.losses,
-    })
+    Some(row_with(pair, sums))
+}
+
+// The row of a pair after one of its results was replaced by another.
+fn row_changed(
+    pair: Pair,
+    found: Option<&ScoreRow>,
+    old: OwnScore,
+    new: OwnScore,
+) -> Option<ScoreRow>
+    ensures some { IfSome result (λ row. row ≡ row_with pair
+        (plus_sums (plus_sums (sums_found (option_map (λ r. r.now) found.entry)) (undoing old)) (gains_of new))) }
+    ensures none { result ≡ None →
+        Fit (plus_sums (sums_found (option_map (λ r. r.now) found.entry)) (undoing old)) →
+        ¬ Fit (plus_sums (plus_sums (sums_found (option_map (λ r. r.now) found.entry)) (undoing old)) (gains_of new)) }
+{
+    let rest = add_sums(sums_of(found), undoing(old))?;
+    let sums = add_sums(rest, gains(new))?;
+    Some(row_with(pair, sums))
 }
 
 /// The key of a member and an opponent in an event.
@@ -184,14 +231,15 @@ pub fn pair_of(event: u32, member: u32, opponent: u32) -> Pair
     }
 }
 
-/// The rows of both players after one more game, from their present rows. None if a sum overflows.
+/// The rows of both players after one more ended game, from their present rows. A void game has no score. None if a sum
+/// overflows.
 ///
 /// # Guarantees
 ///
 /// `none`: a sum overflows only after at least 2^61 results.
 pub fn score_after(
     pairing: Pairing,
-    score: Score,
+    score: Option<Score>,
     firsts: Option<&ScoreRow>,
     seconds: Option<&ScoreRow>,
 ) -> Option<ScoreRows>
@@ -206,6 +254,48 @@ pub fn score_after(
     let first_row = row_after(firsts_pair, firsts, OwnScore::of_first(score))?;
     let seconds_pair = pair_of(pairing.event, pairing.second, pairing.first);
     let second_row = row_after(seconds_pair, seconds, OwnScore::of_second(score))?;
+    Some(ScoreRows {
+        first: first_row,
+        second: second_row,
+    })
+}
+
+/// The rows of both players after a game that had ended with one score has another, from their present rows. A void
+/// game has no score. None if a sum overflows.
+///
+/// # Guarantees
+///
+/// `none`: a sum overflows only after at least 2^61 results.
+pub fn score_changed(
+    pairing: Pairing,
+    old: Option<Score>,
+    new: Option<Score>,
+    firsts: Option<&ScoreRow>,
+    seconds: Option<&ScoreRow>,
+) -> Option<ScoreRows>
+    ensures some { IfSome result (λ rows. pairing.first ≢ pairing.second →
+        AreChanged pairing.event pairing.first pairing.second old new (option_map (λ r. r.now) firsts.entry)
+        (option_map (λ r. r.now) seconds.entry) rows) }
+    ensures none { result ≡ None → pairing.first ≢ pairing.second → (before after : List Meeting) →
+        AreFound pairing.event pairing.first pairing.second (option_map (λ r. r.now) firsts.entry)
+        (option_map (λ r. r.now) seconds.entry)
+        (before ++ (meetings (pos pairing.event) (pos pairing.first) (pos pairing.second) old ++ after)) →
+        2 ^ 61 ≤ length before + length after }
+{
+    let firsts_pair = pair_of(pairing.event, pairing.first, pairing.second);
+    let first_row = row_changed(
+        firsts_pair,
+        firsts,
+        OwnScore::of_first(old),
+        OwnScore::of_first(new),
+    )?;
+    let seconds_pair = pair_of(pairing.event, pairing.second, pairing.first);
+    let second_row = row_changed(
+        seconds_pair,
+        seconds,
+        OwnScore::of_second(old),
+        OwnScore::of_second(new),
+    )?;
     Some(ScoreRows {
         first: first_row,
         second: second_row,

@@ -5,6 +5,7 @@ use Rattle.club_rules.specs.declared.names.GameKind.{GameKind}
 use Rattle.club_rules.specs.declared.names.GameKind.TheVariants.{Draughts, Shogi}
 use Rattle.club_requests.specs.declared.requests.Caller.{Caller}
 use Rattle.club_requests.specs.declared.requests.Caller.TheVariants.{Officer, Member}
+use Rattle.club_requests.specs.declared.rulings.Ruling.{Ruling}
 use Rattle.club_requests.specs.Outcome.{Outcome, accepted, by_member, by_officer, games_swept, map_outcome, refused, repeated}
 use Rattle.club_core.specs.ClubRules.{ClubRules}
 use Rattle.club_core.specs.declared.challenges.Challenge.{Challenge}
@@ -12,7 +13,7 @@ use Rattle.club_core.specs.Imports.{Import}
 use Rattle.club_core.specs.State.{AnyGame, State, Command, Request, add_member, add_event, answer_challenge, caller_of}
 use Rattle.club_core.specs.State.{close_event, draughts, fold, import_as, import_record, is_late_any, new_key, next}
 use Rattle.club_core.specs.State.{on_game, open_challenge, place, seat, shogi, state_after, step, step_by, step_command}
-use Rattle.club_core.specs.State.{step_game, swept_any, sweep, with_answer, withdraw_challenge}
+use Rattle.club_core.specs.State.{rule, step_game, step_ruling, swept_any, sweep, with_answer, withdraw_challenge}
 use Rattle.club_core.specs.Step.{GameCommand}
 
 -- the state of a club with an arbiter, or without one
@@ -47,6 +48,13 @@ module _ {DP DM DE DT SP SM SE ST : Type 0} (rules : ClubRules DP DM DE DT SP SM
   game_alike id who command None = refl
   game_alike id who command (Some (draughts g)) = mapped_twice As _ _
   game_alike id who command (Some (shogi g)) = mapped_twice As _ _
+
+  ruling_alike : (id number : ℕ) (ruling : Ruling) (game : Option (AnyGame DM SM))
+      → step_ruling rules (As s) moment id number ruling game
+      ≡ map_outcome As (step_ruling rules s moment id number ruling game)
+  ruling_alike id number ruling None = refl
+  ruling_alike id number ruling (Some (draughts g)) = mapped_twice As _ _
+  ruling_alike id number ruling (Some (shogi g)) = mapped_twice As _ _
 
   import_alike : (given : Import) (kind : GameKind)
       → import_as rules (As s) moment given kind ≡ map_outcome As (import_as rules s moment given kind)
@@ -83,6 +91,8 @@ module _ {DP DM DE DT SP SM SE ST : Type 0} (rules : ClubRules DP DM DE DT SP SM
   command_alike who (answer_challenge challenger number accept) = member_alike As who _ _ (λ id. answer_alike accept _)
   command_alike who (new_key name number key) = officer_alike As who _ _ (mapped_twice As _ _)
   command_alike who (close_event event) = officer_alike As who _ _ (mapped_twice As _ _)
+  command_alike who (rule id number ruling) =
+      officer_alike As who _ _ (ruling_alike id number ruling (place s.games id))
 
   by_alike : (who : Option Caller) (command : Command)
       → step_by rules (As s) moment who command ≡ map_outcome As (step_by rules s moment who command)

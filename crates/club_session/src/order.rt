@@ -21,7 +21,7 @@ ghost use Rattle.club_orders.specs.Report.{IsNotOpened};
 ghost use Rattle.club_session.specs.declared.preflight.OpenMode.TheVariants.{Making};
 ghost use Rattle.club_orders.specs.Batches.{AnswersBatch};
 ghost use Rattle.club_orders.specs.Report.{AnswersCommand, IfInit, IfRequest, IfAsk, IfBatch, IfBoundedSweep, IfVerify};
-ghost use Rattle.club_orders.specs.Report.{Shows, IsPassed, IsBegun, IsBegunBehind, task_sessions};
+ghost use Rattle.club_orders.specs.Report.{AnswersQuery, IsPassed, IsBegun, IsBegunBehind, task_sessions};
 ghost use Rattle.club_orders.specs.Report.{IfUnopened, IfUpgrade, IsCreated, IsCreation, IsExisting, IsLedTo};
 ghost use Rattle.club_orders.specs.Report.{IsRepeated, OnlyUnopened};
 ghost use Rattle.club_orders.specs.Report.{schemas_after, writes};
@@ -149,7 +149,7 @@ pub fn execute_order<S: Start, W: Write>(
     ensures asked { IfSome result.1 (λ store. IsClean (store_view store) →
         (s : ClubState) → AreFilesOf s (image_at S.Start) →
         IfAsk task.now (λ question.
-        Shows s moment question (W.contents out.old) (W.contents out.new) result.0)) }
+        AnswersQuery s moment question (W.contents out.old) (W.contents out.new) result.0)) }
     ensures passes { IfSome result.1 (λ store. IsClean (store_view store) →
         (s : ClubState) → AreFilesOf s (image_at S.Start) →
         IfVerify task.now (IsPassed (version_of s) result.0)) }

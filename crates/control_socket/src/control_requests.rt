@@ -52,7 +52,8 @@ fn operation_with(alloc: Global, order: Order, text: &[u8]) -> Result<Option<Ope
     Ok(operation_in(order.task))
 }
 
-// The operation of a parsed command line with its record; `None` for batches, round robins and `serve`.
+// The operation of a parsed command line with its record; `None` for batches, round robins, rulings on many games and
+// `serve`.
 fn operation_from(
     alloc: Global,
     words: Invocation,

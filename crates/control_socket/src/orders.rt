@@ -4,7 +4,7 @@ ghost use Rattle.std.specs.Prelude.{◌≡◌, ◌++◌, ℕ, List, Err, IfOk, c
 ghost use Rattle.club_requests.specs.AnswerText.{outcome_text};
 ghost use Rattle.club_core.specs.Answer.{command_of};
 ghost use Rattle.http_desk.specs.declared.faults.ClubFault.{ClubFault};
-ghost use Rattle.http_desk.specs.Served.{IsOfCall, IsOfCommand, Serves};
+ghost use Rattle.http_desk.specs.Served.{IsOfCommand, IsOfQuestion, Serves};
 ghost use Rattle.http_bodies.specs.ShownViews.{shown_view};
 ghost use Rattle.control_socket.specs.Orders.{HasRunOperation, HasSentAnswer, IsPrinted, state_after};
 ghost use Rattle.control_socket.specs.internal.Asking.{IsOfOperation};
@@ -113,7 +113,7 @@ fn ask<C: ClubService>(
     ensures serves { C.IsClean club.new → (s : C.State) → C.Stands club.old s →
         Serves (C.Stands club.new) (C.Leaves club.new) s s (λ printed.
         IsPrinted C.club s moment (errand_is.Question question.now) (print_of printed.is_done printed.text.items))
-        IsOfCall result }
+        (IsOfQuestion question.now) result }
 {
     let shown = match club.ask(alloc, question, moment) {
         Ok(shown) => shown,

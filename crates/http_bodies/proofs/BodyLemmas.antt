@@ -8,7 +8,7 @@ use Rattle.serde_json.specs.Written.{has_float}
 use Rattle.club_rules.specs.EndName.{end_text}
 use Rattle.club_requests.specs.Outcome.{MoveReply, Reply, member_added, event_added, game_seated, moved, draw_offered}
 use Rattle.club_requests.specs.Outcome.{game_ended, games_swept, challenge_opened, challenge_withdrawn}
-use Rattle.club_requests.specs.Outcome.{challenge_accepted, challenge_refused, event_closed, key_given}
+use Rattle.club_requests.specs.Outcome.{challenge_accepted, challenge_refused, event_closed, key_given, ruling_given}
 use Rattle.club_lists.proofs.Proved.{text_float}
 use Rattle.http_bodies.specs.Bodies.{moved_data, reply_data, json_of}
 
@@ -42,3 +42,4 @@ reply_float id (challenge_refused n) = refl
 reply_float id (challenge_accepted n game) = refl
 reply_float id (key_given n) = refl
 reply_float id event_closed = refl
+reply_float id (ruling_given n) = refl

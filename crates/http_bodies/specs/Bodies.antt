@@ -10,7 +10,7 @@ use Rattle.club_rules.specs.EndName.{end_text}
 use Rattle.club_requests.specs.OutsideEnd.{outside_text}
 use Rattle.club_requests.specs.Outcome.{MoveReply, Reply, member_added, event_added, game_seated, moved, draw_offered}
 use Rattle.club_requests.specs.Outcome.{game_ended, games_swept, challenge_opened, challenge_withdrawn}
-use Rattle.club_requests.specs.Outcome.{challenge_accepted, challenge_refused, event_closed, key_given}
+use Rattle.club_requests.specs.Outcome.{challenge_accepted, challenge_refused, event_closed, key_given, ruling_given}
 use Rattle.club_core.specs.State.{Command, open_challenge, answer_challenge}
 use Rattle.club_lists.specs.Values.{text_or_null, number_data}
 
@@ -40,7 +40,7 @@ ended_data id end result = object
     (member (codes "game") (number_data id)
     (member (codes "result") (string result) no_members)))
 
--- the id of a new member, event or game, or the number of a new key
+-- the id of a new member, event or game, or the number of a new key or of a ruling
 abbrev pub added_data : List ℕ → ℕ → Data
 added_data kind id = object (member kind (number_data id) no_members)
 
@@ -79,6 +79,7 @@ reply_data id (challenge_refused n) = challenge_data n (codes "refused")
 reply_data id (challenge_accepted n game) = started_data n game
 reply_data id (key_given n) = added_data (codes "key") n
 reply_data id event_closed = closed_data
+reply_data id (ruling_given n) = added_data (codes "ruling") n
 
 -- ---- requests
 

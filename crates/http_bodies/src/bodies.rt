@@ -93,6 +93,12 @@ fn key_value(alloc: Global, number: u64) -> Result<Value, AllocError>
     json!(in alloc; {"key": number})
 }
 
+fn ruling_value(alloc: Global, number: u64) -> Result<Value, AllocError>
+    ensures { IfOk result (λ v. view v ≡ added_data (codes "ruling") number) }
+{
+    json!(in alloc; {"ruling": number})
+}
+
 fn closed_value(alloc: Global) -> Result<Value, AllocError>
     ensures { IfOk result (λ v. view v ≡ closed_data) }
 {
@@ -117,6 +123,7 @@ fn answer_value(alloc: Global, id: u32, answer: Answer) -> Result<Value, AllocEr
         Answer::ChallengeAccepted { number, game } => started_value(alloc, number, game),
         Answer::KeyGiven { number } => key_value(alloc, number),
         Answer::EventClosed => closed_value(alloc),
+        Answer::RulingGiven { number } => ruling_value(alloc, number),
     }
 }
 

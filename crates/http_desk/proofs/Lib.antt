@@ -10,3 +10,4 @@ pub mod AskedRoutes
 pub mod EachRow
 pub mod HostLemmas
 pub mod MembersCommands
+pub mod MembersQuestions

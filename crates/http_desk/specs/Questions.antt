@@ -17,6 +17,7 @@ Asks topic.GameView endpoint key question = question ≡ asked.GameJson endpoint
 Asks topic.LegalMoves endpoint key question = question ≡ asked.LegalMovesJson endpoint.id
 Asks topic.GameRecord endpoint key question = question ≡ asked.Record endpoint.id
 Asks topic.GameClock endpoint key question = question ≡ asked.GameClock endpoint.id
+Asks topic.GameRulings endpoint key question = question ≡ asked.RulingsJson endpoint.id
 Asks topic.GamePage endpoint key question = question ≡ asked.GamePage endpoint.id
 Asks topic.EventTable endpoint key question = HasText endpoint.name (λ text. asked.CrossTable text) question
 Asks topic.EventGames endpoint key question = HasText endpoint.name (λ text. asked.EventGames text) question

@@ -2,6 +2,7 @@
 use Rattle.std.specs.Prelude.{◌≡◌, ◌⊎◌, ℕ, List, Option, Result, Ok, Err, true}
 use Rattle.club_requests.specs.Outcome.{Outcome}
 use Rattle.club_requests.specs.declared.refusals.Refusal.{Refusal}
+use Rattle.club_requests.specs.Questions.{is_arbiters}
 use Rattle.club_requests.specs.declared.questions.Question.{Question}
 use Rattle.club_core.specs.State.{Command, Request, needs_arbiter}
 use Rattle.http_desk.specs.declared.faults.ClubFault.{ClubFault}
@@ -24,6 +25,11 @@ IsOfCall fault = (fault ≡ Store) ⊎ (fault ≡ Memory)
 -- for it
 abbrev pub IsOfCommand : Command → ClubFault → Type 0
 IsOfCommand command fault = IsOfCall fault ⊎ ((needs_arbiter command ≡ true) × (fault ≡ Schema))
+
+-- the faults of a query on an open club: those of a call, and 71 if it is an arbiter's and the file has no tables for
+-- it
+abbrev pub IsOfQuestion : Question → ClubFault → Type 0
+IsOfQuestion question fault = IsOfCall fault ⊎ ((is_arbiters question ≡ true) × (fault ≡ Schema))
 
 -- The effect of a call in the state `s`: on Ok a right answer and the state `next`; on Err a possible fault and one
 -- of the two states.

@@ -1,5 +1,6 @@
 //! Queries of members: the question that an endpoint asks.
-ghost use Rattle.std.specs.Prelude.{IfOk};
+ghost use Rattle.std.specs.Prelude.{◌≡◌, IfOk, false};
+ghost use Rattle.club_requests.specs.Questions.{is_arbiters};
 ghost use Rattle.http_desk.specs.internal.DeskViews.{endpoint_view};
 ghost use Rattle.http_desk.specs.Questions.{Asks};
 
@@ -15,7 +16,8 @@ pub(crate) fn question_of(
     endpoint: Endpoint<'_>,
     key: &str,
 ) -> Result<Question, AllocError>
-    ensures { IfOk result (λ question. Asks topic (endpoint_view endpoint.entry) key.now question) }
+    ensures asks { IfOk result (λ question. Asks topic (endpoint_view endpoint.entry) key.now question) }
+    ensures members { IfOk result (λ question. is_arbiters question ≡ false) }
 {
     let game = u64::from(endpoint.id);
     match topic {
@@ -23,6 +25,7 @@ pub(crate) fn question_of(
         QuestionTopic::LegalMoves => Ok(Question::LegalMovesJson(game)),
         QuestionTopic::GameRecord => Ok(Question::Record(game)),
         QuestionTopic::GameClock => Ok(Question::GameClock(game)),
+        QuestionTopic::GameRulings => Ok(Question::RulingsJson(game)),
         QuestionTopic::GamePage => Ok(Question::GamePage(game)),
         QuestionTopic::EventTable => {
             let event = String::from_str(alloc, endpoint.name)?;

@@ -204,6 +204,7 @@ fn question_pattern(topic: QuestionTopic) -> &'static str
         QuestionTopic::GameRecord => "/games/{id}/record",
         QuestionTopic::GameClock => "/games/{id}/clock",
         QuestionTopic::GamePage => "/games/{id}/page",
+        QuestionTopic::GameRulings => "/games/{id}/rulings",
         QuestionTopic::EventTable => "/events/{name}/table",
         QuestionTopic::EventGames => "/events/{name}/games",
         QuestionTopic::EventStandings => "/events/{name}/standings",

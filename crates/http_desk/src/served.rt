@@ -2,7 +2,7 @@
 ghost use Rattle.std.specs.Prelude.{◌≡◌, Err, option_map, string_bytes};
 ghost use Rattle.club_core.specs.Answer.{command_of, outcome_of, who_of};
 ghost use Rattle.http_bodies.specs.ShownViews.{shown_view};
-ghost use Rattle.http_desk.specs.Served.{Club, IsOfCall, IsOfCommand, Serves};
+ghost use Rattle.http_desk.specs.Served.{Club, IsOfCall, IsOfCommand, IsOfQuestion, Serves};
 
 use crate::faults::ClubFault;
 use clocks::Moment;
@@ -12,8 +12,8 @@ use std::alloc::Global;
 /// A club that can be served.
 ///
 /// A call that fails leaves the state before it or the one after it; its fault is `Store` or `Memory`, or `Schema` for
-/// an arbiter's command. A failed club answers every call with its fault, whichever that is. A club that could not be
-/// opened has no state.
+/// an arbiter's command or query. A failed club answers every call with its fault, whichever that is. A club that could
+/// not be opened has no state.
 pub trait ClubService {
     ghost use Rattle.http_desk.specs.declared.faults.ClubFault.{ClubFault};
     ghost use Rattle.http_desk.specs.declared.faults.ClubFault.TheVariants.{Schema};
@@ -53,7 +53,7 @@ pub trait ClubService {
     ///
     /// # Errors
     ///
-    /// As for `member_by_key`.
+    /// As for `member_by_key`, and `Schema` if the query is an arbiter's and the file has no tables for it.
     ///
     /// # Guarantees
     ///
@@ -69,7 +69,7 @@ pub trait ClubService {
             (result ≡ Err fault) × IsShut self.new fault }
         ensures serves { IsClean self.new → (s : State) → Stands self.old s →
             Serves (Stands self.new) (Leaves self.new) s s
-            (λ shown. club.IsShown s moment question.now (shown_view shown)) IsOfCall result };
+            (λ shown. club.IsShown s moment question.now (shown_view shown)) (IsOfQuestion question.now) result };
 
     /// Executes a command.
     ///

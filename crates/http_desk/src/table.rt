@@ -3,8 +3,8 @@
 use self::Access::{Members, Public};
 use self::GameAction::{AcceptDraw, ClaimTime, Declare, MakeMove, OfferDraw, Resign};
 use self::QuestionTopic::{
-    EventGames, EventStandings, EventTable, GameClock, GamePage, GameRecord, GameView, LegalMoves,
-    MyEndedGames, MyEvents, MyGames,
+    EventGames, EventStandings, EventTable, GameClock, GamePage, GameRecord, GameRulings, GameView,
+    LegalMoves, MyEndedGames, MyEvents, MyGames,
 };
 use self::Topic::{Analysis, Answer, Challenge, MembersPage, OnGame, Question, Withdraw};
 use club_rules::GameKind::{self, Draughts, Shogi};
@@ -24,6 +24,8 @@ pub enum QuestionTopic {
     GameRecord,
     /// The clock of the game `{id}`.
     GameClock,
+    /// The rulings on the game `{id}`.
+    GameRulings,
     /// The game `{id}`, its clock and its legal moves.
     GamePage,
     /// The cross table of the event `{name}`.
@@ -99,7 +101,7 @@ pub struct Route {
 }
 
 /// All routes, each after its path with the parameters in braces.
-pub(crate) const TABLE: [(&str, Method, Access, Topic, Caching); 23] = [
+pub(crate) const TABLE: [(&str, Method, Access, Topic, Caching); 24] = [
     (
         "/games/{id}",
         Get,
@@ -126,6 +128,13 @@ pub(crate) const TABLE: [(&str, Method, Access, Topic, Caching); 23] = [
         Get,
         Members,
         Question(GameClock, Json),
+        NoStore,
+    ),
+    (
+        "/games/{id}/rulings",
+        Get,
+        Members,
+        Question(GameRulings, Json),
         NoStore,
     ),
     (

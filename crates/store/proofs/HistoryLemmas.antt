@@ -43,7 +43,7 @@ use Rattle.club_rows.specs.Tables.{version_of}
 use Rattle.club_rows.proofs.Proved.{version-served, version-with, version-without}
 use Rattle.club_check.specs.Versions.{HoldsRows}
 use Rattle.club_check.specs.internal.Versions.{IsExactlyClub}
-use Rattle.club_check.proofs.Proved.{club_of_version, club_told}
+use Rattle.club_check.proofs.Proved.{club_told}
 use Rattle.store.proofs.LegalLemmas.{arbiter_kept, arbiter_stays}
 use Rattle.store_tables.specs.declared.names.Version.{Version}
 use Rattle.store_tables.specs.declared.names.Version.TheVariants.{V1, V2, V3}

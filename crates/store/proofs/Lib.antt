@@ -4,4 +4,5 @@ pub mod NameLemmas
 pub mod OpeningLemmas
 pub mod Proved
 pub mod RunLemmas
+pub mod UnderLemmas
 pub mod UpgradeLemmas

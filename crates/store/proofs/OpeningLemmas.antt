@@ -33,9 +33,10 @@ skipped false none = none
 no-rows : (t : ℕ)
     → ◌≡◌ {A = List Row} (if t == 1 then [] else (if t == 4 then [] else (if t == 6 then [] else (if t == 8 then []
     else (if t == 10 then [] else (if t == 12 then [] else (if t == 14 then [] else (if t == 16 then []
-    else (if t == 17 then [] else (if t == 22 then [] else [])))))))))) []
+    else (if t == 17 then [] else (if t == 20 then [] else (if t == 22 then [] else []))))))))))) []
 no-rows t = skipped (t == 1) (skipped (t == 4) (skipped (t == 6) (skipped (t == 8) (skipped (t == 10)
-    (skipped (t == 12) (skipped (t == 14) (skipped (t == 16) (skipped (t == 17) (skipped (t == 22) refl)))))))))
+    (skipped (t == 12) (skipped (t == 14) (skipped (t == 16) (skipped (t == 17) (skipped (t == 20)
+    (skipped (t == 22) refl))))))))))
 
 nothing-else : (test : Bool) (rows : List Row) {others : List Row} → others ≡ []
     → (if test then rows else []) ≡ (if test then rows else others)

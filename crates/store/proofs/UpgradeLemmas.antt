@@ -29,18 +29,18 @@ use Rattle.store_tables.proofs.Proved.{altered, each_at, holds_itself, leaves_it
 use Rattle.club_changes.proofs.Proved.{◌&◌, ids_agree, ids_same, numbered_had}
 use Rattle.club_changes.specs.internal.Steps.{AreSame}
 use Rattle.club_core.specs.Events.{Event}
-use Rattle.club_core.specs.LegalState.{Each, IsGameOf, IsLegalChallenge}
+use Rattle.club_core.specs.LegalState.{Each, IsLegalChallenge}
 use Rattle.club_core.specs.Members.{Member}
-use Rattle.club_core.specs.State.{draughts, shogi}
+use Rattle.club_core.specs.State.{draughts, rulings_of, shogi}
 use Rattle.club_core.specs.declared.challenges.Challenge.{Challenge}
 use Rattle.club_core.specs.LegalState.{IsLegalIn}
 use Rattle.club_rows.specs.Club.{ClubGame, ClubState, IsClub, both_games, tables}
 use Rattle.club_rows.specs.FirstSchema.{IsClubOf, first_tables, tables_at, upgraded_to}
 use Rattle.club_rows.specs.Tables.{gathered_from, key_row, meta_row, numbered_from, rows_of_closing, rows_of_keys}
-use Rattle.club_rows.specs.Tables.{closing_row, rule_row, version_of}
+use Rattle.club_rows.specs.Tables.{closing_row, rows_of_rulings, rule_row, ruling_rows_from}
 use Rattle.club_rows.proofs.Proved.{version-without}
 use Rattle.std.specs.Option.{option_map, option_to_list}
-use Rattle.store.specs.Histories.{HistoryStep, IsHistory, IsReachableIn, Place, UpgradeLeads, place_in, upgraded}
+use Rattle.store.specs.Histories.{HistoryStep, IsHistory, IsReachableIn, Place, upgraded}
 use Rattle.store.specs.Upgrades.{uses_names_of}
 use Rattle.store.proofs.HistoryLemmas.{at_state, leads_then, tables_served}
 
@@ -192,15 +192,32 @@ no_closings n (e ∷ events) none =
     λ i. option_to_list (option_map (closing_row n) (here i))
     ++ no_closings (suc n) events (λ k x at. none (suc k) x at) i
 
+no_rulings : (n : ℕ) (games : List ClubGame) → Each (λ g. rulings_of g ≡ []) games
+    → gathered_from rows_of_rulings n games ≡ []
+no_rulings n [] none = refl
+no_rulings n (draughts g ∷ games) none =
+    let here : g.rulings ≡ [] = none 0 (draughts g) refl in
+    λ i. ruling_rows_from n 1 g.outside (here i) ++ no_rulings (suc n) games (λ k x at. none (suc k) x at) i
+no_rulings n (shogi g ∷ games) none =
+    let here : g.rulings ≡ [] = none 0 (shogi g) refl in
+    λ i. ruling_rows_from n 1 g.outside (here i) ++ no_rulings (suc n) games (λ k x at. none (suc k) x at) i
+
 pub none_added : (from to : Version) (s : ClubState) → IsClubOf from s → schema_number from < schema_number to
     → HasNoneAdded from to (tables_at from s)
 none_added V1 V2 s own less = (refl, tt)
 none_added V1 V3 s own less =
-    let without = own.club.without_arbiter own.no_arbiter in
-    (refl, (no_keys 1 s.members without.keys, (refl, (no_closings 1 s.events without.events, tt))))
+    let without = own.club.without_arbiter own.no_arbiter in (
+      refl,
+      (
+        no_keys 1 s.members without.keys,
+        (no_rulings 1 s.games without.games, (no_closings 1 s.events without.events, tt)),
+      ),
+    )
 none_added V2 V3 s own less =
-    let without = own.0.without_arbiter own.1 in
-    (no_keys 1 s.members without.keys, (refl, (no_closings 1 s.events without.events, tt)))
+    let without = own.0.without_arbiter own.1 in (
+      no_keys 1 s.members without.keys,
+      (no_rulings 1 s.games without.games, (no_closings 1 s.events without.events, tt)),
+    )
 none_added V1 V1 s own less = absurd (omega (arith, less))
 none_added V2 V1 s own less = absurd (omega (arith, less))
 none_added V2 V2 s own less = absurd (omega (arith, less))
@@ -222,6 +239,7 @@ game_kept s (draughts g) k = record {
   key = k.key;
   start = k.start;
   entries = k.entries;
+  rulings = k.rulings;
   lost_by_time = k.lost_by_time;
 }
 game_kept s (shogi g) k = record {
@@ -234,6 +252,7 @@ game_kept s (shogi g) k = record {
   key = k.key;
   start = k.start;
   entries = k.entries;
+  rulings = k.rulings;
   lost_by_time = k.lost_by_time;
 }
 

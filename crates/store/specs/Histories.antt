@@ -10,7 +10,6 @@ use Rattle.store_tables.specs.Migrations.{HoldsInVersion, LeavesInVersion}
 use Rattle.store_tables.specs.Over.{LeavesBeside, Neighbours, alone}
 use Rattle.store_tables.specs.Tables.{schema_number}
 use Rattle.store_tables.specs.declared.names.Version.{Version}
-use Rattle.store_tables.specs.declared.names.Version.TheVariants.{V2, V3}
 use Rattle.club_requests.specs.declared.requests.Request as given_request
 use Rattle.club_requests.specs.declared.answers.Outcome as given_outcome
 use Rattle.club_core.specs.Answer.{outcome_of, request_of}

@@ -111,6 +111,7 @@ impl Decide for Command {
             Command::Answer(command) => command.decide(alloc, version, conn, caller, moment),
             Command::NewKey(command) => command.decide(alloc, version, conn, caller, moment),
             Command::CloseEvent(command) => command.decide(alloc, version, conn, caller, moment),
+            Command::Rule(command) => command.decide(alloc, version, conn, caller, moment),
         }
     }
 }

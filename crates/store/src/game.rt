@@ -20,6 +20,7 @@ ghost use Rattle.store_tables.specs.Reading.{Reads};
 ghost use Rattle.store_tables.specs.Names.{tree_of};
 ghost use Rattle.store_tables.specs.declared.names.Table.TheVariants.{Scores};
 ghost use Rattle.club_changes.specs.Steps.{IsRecordOf};
+ghost use Rattle.club_reads.specs.internal.Rulings.{FindsVerdict};
 ghost use Rattle.club_changes.specs.internal.Steps.{IsDecidedIn, IsSeenAfter, AreScoresAfter, HasTwoPlayers};
 ghost use Rattle.club_changes.specs.internal.Steps.{FindsMoveRows, FindsSeenRows};
 ghost use Rattle.club_changes.specs.internal.Whole.{IsWhole};
@@ -120,6 +121,7 @@ fn act<R: Rules, S: Alter>(
     ensures step { HasCleanDisk (state S.Store conn.new) → IfOk result (λ d. (content : Content) (old : Game R.Move) →
         HasRows content (state S.Store conn.old) → FindsSeenRows R.rules stored.now.id old content →
         FindsMoveRows R.rules (terms_given stored.now.terms) stored.now.id old content →
+        FindsVerdict stored.now.id old content (state S.Store conn.old) →
         IsRecordOf R.rules (terms_given stored.now.terms) stored.now.id stored.now.row old →
         (clocks_of old (terms_given stored.now.terms)).since ≤ moment →
         IsDecidedIn R.rules (terms_given stored.now.terms) stored.now.id moment (content (tree_of Scores)) old

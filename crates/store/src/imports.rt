@@ -19,6 +19,7 @@ ghost use Rattle.store_tables.specs.Names.{tree_of};
 ghost use Rattle.store_tables.specs.declared.names.Table.TheVariants.{Scores};
 ghost use Rattle.club_changes.specs.internal.Importing.{IsOfKind, IsImportedIn, PutsNewGame, imported_by};
 ghost use Rattle.club_changes.specs.internal.Whole.{IsWhole};
+ghost use Rattle.club_reads.specs.internal.Rulings.{FindsVerdictUnder};
 
 use crate::decides::Decide;
 use clocks::Moment;
@@ -64,7 +65,7 @@ fn added<R: Rules, S: Alter>(
     }
     let rows = new_rows::<R>(alloc, key, terms, moment, new)?;
     let pairing = new.pairing;
-    let score = new.recorded.score;
+    let score = Some(new.recorded.score);
     let scores = score_rows_after(
         alloc,
         conn,
@@ -93,6 +94,7 @@ fn import_as<R: Records, S: Alter>(
     ensures step { HasCleanDisk (state S.Store conn.new) → IfOk result (λ d. (content : Content)
         (old : Option (Game R.Move)) → HasRows content (state S.Store conn.old) →
         IsOfKind R.rules kind content old known.now.under →
+        FindsVerdictUnder old known.now.under content (state S.Store conn.old) →
         IsImportedIn R.rules (events_of known.now.events.items) (string_bytes command.now.key) known.now.games moment
         (content (tree_of Scores)) (imported_by R.rules R.records known.now caller (import_of command.now) old) d) }
 {

@@ -47,6 +47,7 @@ mod game;
 mod imports;
 pub mod laws;
 mod reopen;
+mod rulings;
 mod seats;
 mod sweep;
 mod upgrade_result;

@@ -9,7 +9,8 @@ use Rattle.sqlite_value.proofs.OrderLemmas.{value_cmp_total}
 use Rattle.sqlite.specs.Order.{Row, column}
 use Rattle.sqlite.specs.State.{State}
 use Rattle.sqlite_rules.specs.Lists.{Has}
-use Rattle.store_tables.specs.internal.Cells.{closing_cells, key_cells, ruling_cells}
+use Rattle.store_tables.specs.Cells.{ruling_cells}
+use Rattle.store_tables.specs.internal.Cells.{closing_cells, key_cells}
 use Rattle.store_tables.specs.internal.Changed.{FitsVersion, changed, maybe_row, meta_at}
 use Rattle.store_tables.specs.Changes.{HaveSame}
 use Rattle.store_tables.specs.internal.Changes.{AreSame, Alters}

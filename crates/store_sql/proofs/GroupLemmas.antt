@@ -75,3 +75,14 @@ pub blame : (table : Table) (IsTyped : Row → Type 0) (old : State) (slice show
 blame table IsTyped old slice shown e is typed (inl memory) = inr (inl memory)
 blame table IsTyped old slice shown e is typed (inr (named, wrong)) =
     inr (inr (named, λ rows kept apart all. (rw is at wrong) (typed rows kept all)))
+
+-- rows that were read, of which one has a value of another type, are rows of the table
+pub untyped_begun : (table : Table) (width : ℕ) (n : ℤ) (IsTyped : Row → Type 0) (old new : State)
+    (slice shown : List Row) (e : ReadFault) → slice ≡ shown → AreReadOf table width n shown old new
+    → (e ≡ Memory) ⊎ ((e ≡ WrongType) × (¬ All IsTyped slice)) → e ≡ WrongType
+    → ¬ AllByRecursion IsTyped (beginning_with n (map (cells table) (club_trees old.now table.tree)))
+untyped_begun table width n IsTyped old new slice shown e is read (inl memory) wrong all = cc
+untyped_begun table width n IsTyped old new slice shown e is read (inr (named, none)) wrong all =
+    (rw is at none) (λ i d within.
+    all_has IsTyped (beginning_with n (map (cells table) (club_trees old.now table.tree))) (get_or shown i d) all
+    (has_turned shown _ (get_or shown i d) (IsPermutation-sym _ _ read.once) (has_index shown i d within)))

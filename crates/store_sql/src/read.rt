@@ -3,6 +3,7 @@
 
 ghost use Rattle.std.specs.Prelude.{◌≡◌, ◌≢◌, ◌⊎◌, true, false, IsTrue, IfOk, IfErr, OnOk, is_ok, All, [], ◌∷◌, map};
 ghost use Rattle.std.specs.Prelude.{length, pos};
+ghost use Rattle.std.specs.List.{AllByRecursion};
 ghost use Rattle.std.specs.List.Sorted.{IsSorted};
 ghost use Rattle.sqlite.specs.Order.{column};
 ghost use Rattle.sqlite.specs.State.{HasCleanDisk, IsUnchanged};
@@ -10,7 +11,7 @@ ghost use Rattle.sqlite.specs.Held.{state};
 ghost use Rattle.sqlite.specs.declared.error.Error.TheVariants.{QueryReturnedNoRows};
 ghost use Rattle.sqlite.specs.declared.types.Value.TheVariants.{Int};
 ghost use Rattle.store_tables.specs.Changes.{HaveSame};
-ghost use Rattle.store_tables.specs.Content.{AreApart};
+ghost use Rattle.store_tables.specs.Content.{AreApart, cells};
 ghost use Rattle.store_tables.specs.internal.Contents.{AreThose};
 ghost use Rattle.store_tables.specs.Over.{HasRowsIn};
 ghost use Rattle.store_tables.specs.Placed.{HasTableAt, club_trees};
@@ -19,6 +20,7 @@ ghost use Rattle.store_tables.specs.Reading.{Reads};
 ghost use Rattle.store_tables.specs.internal.Reading.{AreIds, by_columns, IsNoInput, ReturnsRows, TellsIds};
 ghost use Rattle.store_sql.specs.internal.Read.{AreCounted, AreReadOf, IsLast, IsReadAs, Blames, BeginWithPlaces};
 ghost use Rattle.store_sql.specs.internal.Read.{was_read};
+ghost use Rattle.store_sql.specs.Read.{beginning_with};
 
 use crate::fault::{ReadFault, TableFault, is_refused};
 use crate::texts::Select;
@@ -277,6 +279,10 @@ pub fn read_by_first<T: Select, S: Alter>(
     ensures same { HasCleanDisk (state S.Store conn.new) → IfErr result (λ e. e ≡ ReadFault.WrongType →
         HasTableAt (state S.Store conn.old).now.schema T.which →
         IsUnchanged (state S.Store conn.old) (state S.Store conn.new)) }
+    // A value of a wrong type is in one of the rows with this first column.
+    ensures untyped { HasCleanDisk (state S.Store conn.new) → IfErr result (λ e. e ≡ ReadFault.WrongType →
+        HasTableAt (state S.Store conn.old).now.schema T.which → ¬ AllByRecursion T.IsTyped (beginning_with first.now
+        (map (cells T.table) (club_trees (state S.Store conn.old).now T.table.tree)))) }
 {
     let shown = match show_by_first::<T, S>(conn, first) {
         Ok(shown) => shown,

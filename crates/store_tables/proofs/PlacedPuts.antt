@@ -24,11 +24,11 @@ use Rattle.sqlite_schema.specs.declared.schema.Constraint.TheVariants.{Unique}
 use Rattle.sqlite_schema.specs.declared.schema.Keys.TheVariants.{Enforced}
 use Rattle.sqlite_value.specs.declared.value.Value.{Value}
 use Rattle.store_tables.specs.Cells.{MetaRow, MemberRow, EventRow, EventRuleRow, ChallengeRow, MoveRow, GameTableRow}
-use Rattle.store_tables.specs.Cells.{SeenRow, ScoreRow, event_cells}
+use Rattle.store_tables.specs.Cells.{SeenRow, ScoreRow, event_cells, ruling_cells}
 use Rattle.store_tables.specs.internal.Cells.{meta_cells, member_cells, challenge_cells}
 use Rattle.store_tables.specs.Cells.{move_cells, game_cells, seen_cells}
 use Rattle.store_tables.specs.internal.Cells.{event_rule_cells, score_cells}
-use Rattle.store_tables.specs.internal.Cells.{ClosingRow, KeyRow, RulingRow, closing_cells, key_cells, ruling_cells}
+use Rattle.store_tables.specs.internal.Cells.{ClosingRow, KeyRow, RulingRow, closing_cells, key_cells}
 use Rattle.store_tables.specs.Content.{cells, same_key}
 use Rattle.store_tables.specs.Placed.{IsAlike, IsLeftAlone, HasTableAt, only, IsOfOthers}
 use Rattle.store_tables.specs.internal.Put.{IsPut}

@@ -39,6 +39,13 @@ game_cells r =
 abbrev pub seen_cells : SeenRow → Row
 seen_cells r = Int r.game ∷ Text (string_bytes r.position) ∷ Int r.count ∷ Int r.first_ply ∷ []
 
+-- the column values of a row of `rulings`
+abbrev pub ruling_cells : RulingRow → Row
+ruling_cells r =
+    Int r.game ∷ Int r.number ∷ Int r.moment ∷ Int r.ply ∷ Int r.kind ∷ Int r.seconds
+    ∷ or_null (λ s. Text (string_bytes s)) r.result ∷ or_null (λ s. Text (string_bytes s)) r.beneath
+    ∷ or_null (λ s. Text (string_bytes s)) r.beneath_result ∷ []
+
 -- ---- values of the right types
 
 -- a text in UTF-8

@@ -5,11 +5,11 @@ ghost use Rattle.sqlite_value.specs.declared.value.Value.TheVariants.{Int, Text}
 ghost use Rattle.sqlite.specs.Values.{IsInt, or_null};
 ghost use Rattle.sqlite.specs.Order.{Row as Cells, column};
 ghost use Rattle.store_tables.specs.declared.parse.RowError.TheVariants.{WrongType};
-ghost use Rattle.store_tables.specs.Cells.{event_cells, move_cells};
+ghost use Rattle.store_tables.specs.Cells.{event_cells, move_cells, ruling_cells};
 ghost use Rattle.store_tables.specs.internal.Cells.{meta_cells, member_cells, challenge_cells};
 ghost use Rattle.store_tables.specs.Cells.{game_cells, seen_cells};
 ghost use Rattle.store_tables.specs.internal.Cells.{event_rule_cells, score_cells};
-ghost use Rattle.store_tables.specs.internal.Cells.{closing_cells, key_cells, ruling_cells};
+ghost use Rattle.store_tables.specs.internal.Cells.{closing_cells, key_cells};
 ghost use Rattle.store_tables.specs.Cells.{IsClosing, IsKey, IsRuling};
 ghost use Rattle.store_tables.specs.Cells.{IsText, OrNull, IsMember, IsEvent, IsChallenge, IsMove, IsGame};
 ghost use Rattle.store_tables.specs.internal.Cells.{IsMeta};

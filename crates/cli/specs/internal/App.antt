@@ -2,7 +2,7 @@
 use Rattle.std.specs.Prelude.{true, codes}
 use Rattle.clap.specs.Words.{App, new_app}
 use Rattle.cli.specs.App.{Names, member_app, event_app, game_app, import_app, import_csa_app, key_app, move_app}
-use Rattle.cli.specs.App.{of_event_app, with_sub}
+use Rattle.cli.specs.App.{of_event_app, rule_app, with_sub}
 
 -- ---- line of a batch
 
@@ -20,6 +20,7 @@ line_app games =
     (with_sub
     (with_sub
     (with_sub
+    (with_sub
     (with_sub named_line_app member_app)
     (event_app games))
     (game_app (codes "seat")))
@@ -27,5 +28,6 @@ line_app games =
     (new_app (codes "sweep")))
     (import_app (codes "import-pdn")))
     import_csa_app)
+    rule_app)
     key_app)
     (of_event_app (codes "close"))

@@ -1,10 +1,10 @@
 -- The checks of single tables: the members, events, challenges and games of a legal club. No promise of the program
 -- rests on these definitions.
 use Rattle.std.specs.Prelude.{◌≡◌, ◌≢◌, ◌+◌, ◌<◌, ◌≤◌, ℕ, pos, List, map, length, Option, Some, Bool, slice_get}
-use Rattle.std.specs.Prelude.{string_bytes, IfSome}
+use Rattle.std.specs.Prelude.{string_bytes, IfSome, int_le, true}
+use Rattle.std.specs.List.{list_all}
 use Rattle.std.specs.Option.{option_map}
 use Rattle.club_rules.specs.GameRules.{GameRules}
-use Rattle.club_core.specs.declared.rows.GameEnd.TheVariants.{Outside}
 use Rattle.club_core.specs.declared.rows.GameView.{GameView}
 use Rattle.club_requests.specs.declared.outside_end.OutsideEnd.TheVariants.{Time}
 use Rattle.club_requests.specs.Limits.{last_moment, most_members, most_events, most_games}
@@ -16,12 +16,13 @@ use Rattle.club_core.specs.LegalState.{Each, HaveUniqueKeys, HaveUniqueKeysIfAny
 use Rattle.club_core.specs.LegalState.{IsLegalMember, IsLegalEvent, IsLegalIn}
 use Rattle.club_core.specs.State.{place}
 use Rattle.club_core.specs.View.{clocks_in}
-use Rattle.store_tables.specs.Cells.{event_cells, move_cells, game_cells, seen_cells}
+use Rattle.store_tables.specs.Cells.{event_cells, move_cells, game_cells, seen_cells, ruling_cells}
 use Rattle.store_tables.specs.internal.Cells.{event_rule_cells, member_cells}
 use Rattle.store_tables.specs.declared.rows.MemberRow.{MemberRow}
 use Rattle.store_tables.specs.declared.rows.EventRow.{EventRow}
 use Rattle.store_tables.specs.declared.rows.EventRuleRow.{EventRuleRow}
 use Rattle.store_tables.specs.declared.rows.MoveRow.{MoveRow}
+use Rattle.store_tables.specs.declared.rows.RulingRow.{RulingRow}
 use Rattle.store_tables.specs.declared.rows.GameTableRow.{GameTableRow}
 use Rattle.store_tables.specs.declared.rows.Rows.{Rows}
 use Rattle.store_tables.specs.declared.rows.SeenRow.{SeenRow}
@@ -34,7 +35,7 @@ use Rattle.club_audit.specs.internal.ChallengeAudit.{AreChallenges}
 use Rattle.club_audit.specs.internal.ClosingAudit.{AreClosingsAfter, AreClosingsOf, IsClosedBy}
 use Rattle.club_audit.specs.internal.KeyAudit.{AreKeysOf}
 use Rattle.club_rows.specs.Tables.{member_row, event_row, rule_row, declares_number, numbered_from, row_of_game}
-use Rattle.club_rows.specs.Tables.{rows_of_moves, rows_of_seen}
+use Rattle.club_rows.specs.Tables.{rows_of_moves, rows_of_rulings, rows_of_seen}
 
 -- ---- members
 
@@ -128,28 +129,35 @@ pub record NamesPlayers (rows : Rows) (game : GameTableRow) (first second : ℕ)
   pub second_low : 0 < second
   pub second_high : second ≤ length rows.members.items
 
--- the clocks started at or before `last`, and a loss on time had happened by then
-pub record IsWithin {R P M E T : Type 0} (rules : GameRules P M E T) (view : GameView R P M E T) (last : ℕ) : Type 0
-  where
-    pub since : view.row.since ≤ last
-    pub lost_by_time : view.row.end ≡ Some (Outside Time)
-        → view.row.since + left_of (rules.turn view.position) (clocks_in view.row) < last
+-- no ruling is later than this
+abbrev pub are_given_by : ℕ → List RulingRow → Bool
+are_given_by last rulings = list_all (λ r. int_le r.moment (pos last)) rulings
+
+-- the clocks started at or before `last`, no ruling is later, and a loss on time had happened by then
+pub record IsWithin {R P M E T : Type 0} (rules : GameRules P M E T) (view : GameView R P M E T)
+    (rulings : List RulingRow) (last : ℕ) : Type 0 where
+  pub since : view.row.since ≤ last
+  pub given : are_given_by last rulings ≡ true
+  pub lost_by_time : view.row.outside ≡ Some Time
+      → view.row.since + left_of (rules.turn view.position) (clocks_in view.row) < last
 
 -- the same if `last` is given
-abbrev pub IsWithinGiven : {R P M E T : Type 0} → GameRules P M E T → GameView R P M E T → Option ℕ → Type 0
-IsWithinGiven rules view last = (n : ℕ) → last ≡ Some n → n ≤ last_moment → IsWithin rules view n
+abbrev pub IsWithinGiven : {R P M E T : Type 0} → GameRules P M E T → GameView R P M E T → List RulingRow → Option ℕ
+    → Type 0
+IsWithinGiven rules view rulings last = (n : ℕ) → last ≡ Some n → n ≤ last_moment → IsWithin rules view rulings n
 
 -- the rows are those of this game of the club, with this id
 pub record IsGameAt (s : ClubState) (id : ℕ) (row : GameTableRow) (moves : List MoveRow)
-    (game : ClubGame) : Type 0 where
+    (rulings : List RulingRow) (game : ClubGame) : Type 0 where
   pub legal : IsLegalIn both_games s game
   pub row_is : game_cells row ≡ row_of_game both_games s.events id game
   pub moves_are : map move_cells moves ≡ rows_of_moves both_games s.events id game
+  pub rulings_are : map ruling_cells rulings ≡ rows_of_rulings id game
 
 -- these are all rows of this game of the club; its positions each once, in any order
-pub record AreAllOf (s : ClubState) (id : ℕ) (row : GameTableRow) (moves : List MoveRow) (seen : List SeenRow)
-    (game : ClubGame) : Type 0 where
-  pub at : IsGameAt s id row moves game
+pub record AreAllOf (s : ClubState) (id : ℕ) (row : GameTableRow) (moves : List MoveRow)
+    (rulings : List RulingRow) (seen : List SeenRow) (game : ClubGame) : Type 0 where
+  pub at : IsGameAt s id row moves rulings game
   pub seen_are : AreEachOnce (map seen_cells seen) (rows_of_seen both_games id game)
 
 -- ---- a club except moves and positions

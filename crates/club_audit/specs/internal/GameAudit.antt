@@ -7,10 +7,11 @@ use Rattle.club_core.specs.Events.{Terms}
 use Rattle.store_tables.specs.declared.rows.EventRow.{EventRow}
 use Rattle.store_tables.specs.declared.rows.GameTableRow.{GameTableRow}
 use Rattle.store_tables.specs.declared.rows.MoveRow.{MoveRow}
+use Rattle.store_tables.specs.declared.rows.RulingRow.{RulingRow}
 use Rattle.store_tables.specs.declared.rows.SeenRow.{SeenRow}
 use Rattle.store_tables.specs.declared.rows.Rows.{Rows}
 use Rattle.store_tables.specs.declared.names.Table.{Table}
-use Rattle.store_tables.specs.declared.names.Table.TheVariants.{Events, Moves, Games, Seen, Meta}
+use Rattle.store_tables.specs.declared.names.Table.TheVariants.{Events, Moves, Games, Seen, Meta, Rulings}
 use Rattle.club_requests.specs.Limits.{last_moment, most_games}
 use Rattle.club_audit.specs.Audit.{GivesTerms}
 use Rattle.club_audit.specs.internal.Audit.{AreAllOf, IsGameAt, NamesEvent, NamesPlayers}
@@ -21,19 +22,19 @@ use Rattle.club_rows.specs.Tables.{kind_number}
 use Rattle.club_audit.specs.GameAudit.{HaveAll, IsRightOf}
 
 -- the same for the rules of the kind
-abbrev pub HaveAllOf : GameKind → Terms → ℕ → GameTableRow → List MoveRow → List SeenRow → Type 0
-HaveAllOf Draughts terms last row moves seen = HaveAll both_games.draughts terms last row moves seen
-HaveAllOf Shogi terms last row moves seen = HaveAll both_games.shogi terms last row moves seen
+abbrev pub HaveAllOf : GameKind → Terms → ℕ → GameTableRow → List MoveRow → List RulingRow → List SeenRow → Type 0
+HaveAllOf Draughts terms last row moves rulings seen = HaveAll both_games.draughts terms last row moves rulings seen
+HaveAllOf Shogi terms last row moves rulings seen = HaveAll both_games.shogi terms last row moves rulings seen
 
 -- these are all rows of some legal game with the kind and terms of the event's row, with timestamps up to `last`
 pub record AreOfEvent (event : EventRow) (declares : Bool) (last : ℕ)
-    (row : GameTableRow) (moves : List MoveRow) (seen : List SeenRow) : Type 0 where
+    (row : GameTableRow) (moves : List MoveRow) (rulings : List RulingRow) (seen : List SeenRow) : Type 0 where
   pub kind : GameKind
   pub kind_is : event.game ≡ pos (kind_number kind)
   pub budget : ℕ
   pub increment : ℕ
   pub terms : GivesTerms event budget increment
-  pub all : HaveAllOf kind (terms_told budget increment declares) last row moves seen
+  pub all : HaveAllOf kind (terms_told budget increment declares) last row moves rulings seen
 
 -- the event's row has a kind and terms
 pub record GivesRules (event : EventRow) : Type 0 where
@@ -44,29 +45,36 @@ pub record GivesRules (event : EventRow) : Type 0 where
   pub terms : GivesTerms event budget increment
 
 -- the same for the kind and terms of the event's row
-abbrev pub IsRightBy : EventRow → Bool → Option ℕ → GameTableRow → List MoveRow → List SeenRow → Table → Type 0
-IsRightBy event declares last row moves seen t =
+abbrev pub IsRightBy : EventRow → Bool → Option ℕ → GameTableRow → List MoveRow → List RulingRow → List SeenRow
+    → Table → Type 0
+IsRightBy event declares last row moves rulings seen t =
     (kind : GameKind) (budget increment : ℕ) → event.game ≡ pos (kind_number kind) → GivesTerms event budget increment
-    → IsRightOf kind (terms_told budget increment declares) last row moves seen t
+    → IsRightOf kind (terms_told budget increment declares) last row moves rulings seen t
 
 -- and the event's row has a kind and terms
-abbrev pub IsRightInEvent : EventRow → Bool → Option ℕ → GameTableRow → List MoveRow → List SeenRow → Table → Type 0
-IsRightInEvent event declares last row moves seen Events = GivesRules event
-IsRightInEvent event declares last row moves seen t = IsRightBy event declares last row moves seen t
+abbrev pub IsRightInEvent : EventRow → Bool → Option ℕ → GameTableRow → List MoveRow → List RulingRow → List SeenRow
+    → Table → Type 0
+IsRightInEvent event declares last row moves rulings seen Events = GivesRules event
+IsRightInEvent event declares last row moves rulings seen t = IsRightBy event declares last row moves rulings seen t
 
--- The same for the game at this place (from 0) of a club with these members and events. The moves of a game without a
--- valid event are not checked.
-abbrev pub IsRightAt : ClubState → Rows → ℕ → GameTableRow → List MoveRow → List SeenRow → Option ℕ → Table → Type 0
-IsRightAt s rows place row moves seen last Moves =
+-- The same for the game at this place (from 0) of a club with these members and events. The moves and rulings of a
+-- game without a valid event are not checked.
+abbrev pub IsRightAt : ClubState → Rows → ℕ → GameTableRow → List MoveRow → List RulingRow → List SeenRow
+    → Option ℕ → Table → Type 0
+IsRightAt s rows place row moves rulings seen last Moves =
     (id : ℕ) (event : EventRow) (declares : Bool) → NamesEvent rows row id event → NamesRule rows row id declares
-    → IsRightBy event declares last row moves seen Moves
-IsRightAt s rows place row moves seen last Games =
-    (place < most_games) × (g : ClubGame) × IsGameAt (until last_moment s) (place + 1) row moves g
-IsRightAt s rows place row moves seen last Seen =
-    (g : ClubGame) × AreAllOf (until last_moment s) (place + 1) row moves seen g
-IsRightAt s rows place row moves seen last Meta =
-    (n : ℕ) → last ≡ Some n → n ≤ last_moment → (g : ClubGame) × AreAllOf (until n s) (place + 1) row moves seen g
-IsRightAt s rows place row moves seen last t = Unit {0}
+    → IsRightBy event declares last row moves rulings seen Moves
+IsRightAt s rows place row moves rulings seen last Rulings =
+    (id : ℕ) (event : EventRow) (declares : Bool) → NamesEvent rows row id event → NamesRule rows row id declares
+    → IsRightBy event declares last row moves rulings seen Rulings
+IsRightAt s rows place row moves rulings seen last Games =
+    (place < most_games) × (g : ClubGame) × IsGameAt (until last_moment s) (place + 1) row moves rulings g
+IsRightAt s rows place row moves rulings seen last Seen =
+    (g : ClubGame) × AreAllOf (until last_moment s) (place + 1) row moves rulings seen g
+IsRightAt s rows place row moves rulings seen last Meta =
+    (n : ℕ) → last ≡ Some n → n ≤ last_moment
+    → (g : ClubGame) × AreAllOf (until n s) (place + 1) row moves rulings seen g
+IsRightAt s rows place row moves rulings seen last t = Unit {0}
 
 -- the game's id fits its place (from 0), the place is within the limit, and its players are members
 pub record StandsAt (rows : Rows) (place : ℕ) (game : GameTableRow) : Type 0 where

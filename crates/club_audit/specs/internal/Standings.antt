@@ -1,4 +1,5 @@
 -- When rows of scores are those of these games. No promise of the program rests on these definitions.
+use Rattle.std.specs.Prelude.{Bool, true, false, ℤ, is_some}
 use Rattle.std.specs.Prelude.{◌≡◌, ◌≤◌, List, [], ◌∷◌, ◌++◌, map, length, Option, Some, None, cond, string_bytes}
 use Rattle.std.specs.Option.{option_map}
 use Rattle.std.specs.HashMap.{HashMap}
@@ -12,7 +13,7 @@ use Rattle.club_rows.specs.Club.{ClubState, both_games}
 use Rattle.club_rows.specs.Tables.{numbered_from, row_of_game}
 use Rattle.club_rows.specs.internal.NextScores.{no_sums, sums_found, sums_over}
 use Rattle.club_rows.specs.internal.Pairs.{pair_in, sums_at}
-use Rattle.club_rows.specs.Scores.{Meeting, meetings_if, same_pair, scores_of}
+use Rattle.club_rows.specs.Scores.{Meeting, meetings, same_pair, scores_of}
 use Rattle.club_rows.specs.declared.scores.Pair.{Pair}
 use Rattle.club_rows.specs.declared.scores.OwnScore.{OwnScore}
 use Rattle.club_rows.specs.declared.scores.ScoreSums.{ScoreSums}
@@ -24,11 +25,16 @@ pub record AreGamesOf (s : ClubState) (rows : List GameTableRow) : Type 0 where
 
 -- ---- the results in rows of games
 
--- the results of the game of this row; none while it runs
+-- the results of a game that has ended; none while it runs
+abbrev pub met_if : Bool → (event first second : ℤ) → Option Score → List Meeting
+met_if true event first second score = meetings event first second score
+met_if false event first second score = []
+
+-- the results of the game of this row
 pub record Tells (row : GameTableRow) (ms : List Meeting) : Type 0 where
   pub score : Option Score
   pub result : option_map (λ s. string_bytes s) row.result ≡ option_map score_text score
-  pub met : ms ≡ meetings_if row.event row.first row.second score
+  pub met : ms ≡ met_if (is_some row.end) row.event row.first row.second score
 
 -- the results of all games, in order
 abbrev pub AreTold : List GameTableRow → List Meeting → Type 0

@@ -1,5 +1,5 @@
 -- The rows of moves that all have the same timestamp. No promise of the program rests on these definitions.
-use Rattle.std.specs.Prelude.{ℕ, List, map}
+use Rattle.std.specs.Prelude.{ℕ, List, [], map}
 use Rattle.sqlite.specs.Order.{Row}
 use Rattle.club_rules.specs.GameRules.{GameRules}
 use Rattle.club_core.specs.Events.{Terms}
@@ -13,4 +13,4 @@ entries_at_once moment ms = map (λ m. record { made = m; moment = moment }) ms
 
 -- the rows of a game that starts at `moment` and whose moves all have this timestamp
 abbrev pub rows_at_once : {P M E T : Type 0} → GameRules P M E T → Terms → (id moment : ℕ) → List M → List Row
-rows_at_once rules terms id moment ms = move_rows rules terms id (game_from moment (entries_at_once moment ms))
+rows_at_once rules terms id moment ms = move_rows rules terms id (game_from [] moment (entries_at_once moment ms))

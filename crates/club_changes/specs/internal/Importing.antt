@@ -9,7 +9,8 @@ use Rattle.club_requests.specs.declared.requests.Caller.{Caller}
 use Rattle.club_core.specs.Answer.{outcome_of, answered}
 use Rattle.club_core.specs.internal.Answer.{members_of, events_of}
 use Rattle.club_core.specs.Events.{Terms, Event, has_event_name, event_declares}
-use Rattle.club_core.specs.Game.{Game, result_of}
+use Rattle.club_core.specs.declared.rows.GameEnd.{GameEnd}
+use Rattle.club_core.specs.Game.{end_of, Game, result_of}
 use Rattle.club_core.specs.Imports.{Import, Imported, imported, import_found}
 use Rattle.club_core.specs.Members.{find_id}
 use Rattle.club_requests.specs.Outcome.{Outcome, accepted, repeated, refused, by_officer}
@@ -91,10 +92,12 @@ imported_by laws records known caller given old =
 -- the table.
 pub record PutsNewGame {P M E T : Type 0} (laws : GameRules P M E T) (terms : Terms) (id moment : ℕ) (table : List Row)
     (new : Game M) (changes : Changes) : Type 0 where
+  pub end : GameEnd E
+  pub ended : end_of laws new ≡ Some end
   pub score : Score
-  pub ended : result_of laws new ≡ Some score
+  pub result : result_of laws new ≡ Some score
   pub scores : List Row
-  pub scores_are : PutsScores table new.event new.first new.second score scores
+  pub scores_are : PutsScores table new.event new.first new.second (Some score) scores
   pub puts : Puts changes moment
       (record no_rows {
         games = game_row laws terms id new ∷ [];

@@ -12,5 +12,5 @@ clocks_in c = record { left_first = c.left_first; left_second = c.left_second; s
 -- the side to move, if the game runs and that side has used more seconds than it had left
 abbrev pub late_side : Columns → ℕ → Option Side
 late_side c moment =
-    if not (is_some c.result) && nat_lt (left_of (side_after c.plies) (clocks_in c)) (moment - c.since) then Some
+    if not (is_some c.end) && nat_lt (left_of (side_after c.plies) (clocks_in c)) (moment - c.since) then Some
     (side_after c.plies) else None

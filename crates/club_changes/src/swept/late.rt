@@ -24,7 +24,7 @@ pub fn side_after(plies: u32) -> Side
 pub fn late_side(stored: &GameColumns<'_>, moment: Moment) -> Option<Side>
     ensures { result ≡ late_side (columns_in stored.now) moment }
 {
-    if stored.result.is_some() {
+    if stored.end.is_some() {
         return None;
     }
     let turn = side_after(stored.plies);

@@ -100,7 +100,7 @@ pub fn put_scores(
     ensures puts { OnOk result ((before after : List Meeting) → stored.now.first ≢ stored.now.second →
         AreStanding (λ pair. sums_at standings.old pair) (score_rows (before ++ after)) →
         PutsRows (score_rows (before ++ after)) (score_rows (before ++
-        (meetings (pos stored.now.event) (pos stored.now.first) (pos stored.now.second) score ++ after)))
+        (meetings (pos stored.now.event) (pos stored.now.first) (pos stored.now.second) (Some score) ++ after)))
         (λ pair. sums_at standings.new pair) changed.old.items changed.new.items) }
     ensures unfit { IsErrOf result SweepFault.InconsistentRows → (ms : List Meeting) →
         AreStanding (λ pair. sums_at standings.old pair) (score_rows ms) → 2 ^ 61 ≤ length ms }
@@ -114,7 +114,7 @@ pub fn put_scores(
         first: stored.first,
         second: stored.second,
     };
-    match score_after(pairing, score, firsts.as_ref(), seconds.as_ref()) {
+    match score_after(pairing, Some(score), firsts.as_ref(), seconds.as_ref()) {
         Some(pair) => {
             put(standings, changed, pair.first)?;
             put(standings, changed, pair.second)?;

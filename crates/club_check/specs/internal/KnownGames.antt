@@ -1,6 +1,6 @@
 -- Rows of games in which a value has the wrong type: the ids, events and players that can be read, and the games by
 -- which the moves are checked. No promise of the program rests on these definitions.
-use Rattle.std.specs.Prelude.{◌≡◌, ◌⊎◌, ℤ, negsuc, List, [], ◌∷◌, map}
+use Rattle.std.specs.Prelude.{◌≡◌, ◌⊎◌, ◌<◌, ℤ, negsuc, List, [], ◌∷◌, map}
 use Rattle.sqlite_value.specs.declared.value.Value.{Value}
 use Rattle.sqlite_value.specs.declared.value.Value.TheVariants.{Int}
 use Rattle.sqlite.specs.Order.{Row, column}
@@ -10,15 +10,17 @@ use Rattle.store_tables.specs.Placed.{club_trees}
 use Rattle.store_tables.specs.Cells.{IsGame, game_cells}
 use Rattle.store_tables.specs.Content.{Keeps}
 use Rattle.store_tables.specs.internal.Reading.{AreIds}
-use Rattle.store_tables.specs.declared.names.Table.TheVariants.{Challenges, Games, Moves}
+use Rattle.store_tables.specs.declared.names.Table.{Table}
+use Rattle.store_tables.specs.declared.names.Table.TheVariants.{Challenges, Games, Moves, Rulings}
+use Rattle.store_tables.specs.declared.names.Version.{Version}
 use Rattle.store_tables.specs.declared.rows.GameTableRow.{GameTableRow}
 use Rattle.store_tables.specs.declared.rows.Rows.{Rows}
 use Rattle.store_tables.specs.Tables.{standing}
 use Rattle.club_audit.specs.internal.ChallengeAudit.{AreChallenges}
 use Rattle.club_core.specs.declared.challenges.Challenge.{Challenge}
-use Rattle.club_check.specs.internal.Examined.{moves_in}
-use Rattle.club_check.specs.internal.RightMoves.{HaveMovesOf, MovesWrong}
-use Rattle.club_check.specs.internal.RightTables.{IsUnheld, IsUntyped}
+use Rattle.club_audit.specs.FirstWrong.{order}
+use Rattle.club_check.specs.internal.RightMoves.{MovesRight, MovesWrong, RulingsRight, RulingsWrong}
+use Rattle.club_check.specs.internal.RightTables.{IsUntyped}
 use Rattle.club_check.specs.declared.fault.OpenFault.{OpenFault}
 use Rattle.club_check.specs.declared.fault.OpenFault.TheVariants.{Damaged, Memory, Store}
 
@@ -59,12 +61,20 @@ pub record AreGamesKnown (known_games judged_games : List GameTableRow) (old new
   pub untyped : IsUntyped Games old.now
   pub same : IsUnchanged old new
 
--- The table reported as damaged is: challenges, if they are wrong by the known games; moves, if they are wrong by the
--- judged games; or games.
-abbrev pub NamesUntyped : (known_rows judged_rows : Rows) → Database → OpenFault → Type 0
-NamesUntyped known_rows judged_rows db fault = (fault ≡ Store)
+-- The moves or the rulings are wrong by the judged games, or the games have values of wrong types. The tables before
+-- are right, if the database holds any content.
+pub record IsWrongBy (judged_rows : Rows) (version : Version) (db : Database) (t : Table) : Type 0 where
+  pub named : (t ≡ Moves) ⊎ ((t ≡ Rulings) ⊎ (t ≡ Games))
+  pub moves : t ≡ Moves → MovesWrong judged_rows version db
+  pub rulings : t ≡ Rulings → RulingsWrong judged_rows version db
+  pub moves_right : order Moves < order t → MovesRight judged_rows version db
+  pub rulings_right : order Rulings < order t → RulingsRight judged_rows version db
+
+-- The table reported as damaged is: challenges, if they are wrong by the known games; moves or rulings, if they are
+-- wrong by the judged games; or games.
+abbrev pub NamesUntyped : (known_rows judged_rows : Rows) → Version → Database → OpenFault → Type 0
+NamesUntyped known_rows judged_rows version db fault = (fault ≡ Store)
     ⊎ ((fault ≡ Memory)
     ⊎ (((fault ≡ Damaged Challenges) × ((cs : List Challenge) → ¬ AreChallenges cs known_rows))
     ⊎ (((cs : List Challenge) × AreChallenges cs known_rows)
-    × (((fault ≡ Damaged Moves) × MovesWrong judged_rows db)
-    ⊎ ((fault ≡ Damaged Games) × (IsUnheld db ⊎ HaveMovesOf judged_rows (moves_in (club_trees db))))))))
+    × ((t : Table) × (fault ≡ Damaged t) × IsWrongBy judged_rows version db t))))

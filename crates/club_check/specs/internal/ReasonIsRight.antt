@@ -1,6 +1,6 @@
 -- The result of reading a club's tables, and the meaning of each error. No promise of the program rests on these
 -- definitions.
-use Rattle.std.specs.Prelude.{◌≡◌, ◌≢◌, ◌⊎◌, ℕ, pos, true, false, List, [], ◌∷◌, map}
+use Rattle.std.specs.Prelude.{◌≡◌, ◌≢◌, ◌⊎◌, ℕ, ℤ, pos, true, false, List, [], ◌∷◌, map}
 use Rattle.std.specs.List.{AllByRecursion}
 use Rattle.sqlite.specs.Order.{Row}
 use Rattle.sqlite.specs.Table.{Table as Definition}
@@ -11,7 +11,7 @@ use Rattle.store_tables.specs.Cells.{event_cells, game_cells}
 use Rattle.store_tables.specs.internal.Cells.{closing_cells, key_cells, meta_cells, member_cells, challenge_cells}
 use Rattle.store_tables.specs.internal.Cells.{event_rule_cells}
 use Rattle.store_tables.specs.Content.{Keeps, AreApart, cells}
-use Rattle.store_sql.specs.internal.Read.{AreCounted, IsReadAs}
+use Rattle.store_sql.specs.internal.Read.{AreCounted, AreReadOf, IsReadAs}
 use Rattle.store_tables.specs.Tables.{events, schema_number}
 use Rattle.store_tables.specs.declared.rows.EventRow.{EventRow}
 use Rattle.store_tables.specs.declared.rows.ClosingRow.{ClosingRow}
@@ -75,6 +75,11 @@ AreClosingsRead _ closings old new = IsUnchanged old new × (closings ≡ [])
 abbrev pub AreRulingsCounted : Version → ℕ → State → State → Type 0
 AreRulingsCounted V3 count old new = AreCounted (tree_of Rulings) count old new
 AreRulingsCounted _ count old new = IsUnchanged old new × (count ≡ 0)
+
+-- the rulings on the game with this id, in the order of their numbers; none in a version without the table
+abbrev pub AreRulingsRead : Version → ℤ → List Row → State → State → Type 0
+AreRulingsRead V3 id rows old new = AreReadOf (standing Rulings) 2 id rows old new
+AreRulingsRead _ id rows old new = IsUnchanged old new × (rows ≡ [])
 
 -- The tables that are read whole have these rows, and the schema number is that of the version, if `meta` has its row.
 pub record AreRead (version : Version) (rows : Rows) (old new : State) : Type 0 where

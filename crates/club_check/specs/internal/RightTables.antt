@@ -1,6 +1,6 @@
 -- When the rows of a table are right, given the tables before it, and which table an error names. No promise of the
 -- program rests on these definitions.
-use Rattle.std.specs.Prelude.{◌≡◌, ◌≢◌, ◌⊎◌, ◌<◌, List, length, map, Option, Some}
+use Rattle.std.specs.Prelude.{◌≡◌, ◌⊎◌, ◌<◌, List, length, map, Option, Some}
 use Rattle.sqlite.specs.Effect.{Database}
 use Rattle.sqlite.specs.Order.{Row}
 use Rattle.store_tables.specs.Placed.{club_trees}
@@ -28,19 +28,20 @@ use Rattle.club_audit.specs.internal.ChallengeAudit.{AreChallenges}
 use Rattle.club_audit.specs.internal.Standings.{AreGamesOf}
 use Rattle.club_audit.specs.FirstWrong.{order}
 use Rattle.club_check.specs.ReasonIsRight.{HasTypes, HoldsNone}
-use Rattle.club_check.specs.internal.Examined.{AreSeenOf, WerePlayed, moves_in, past, seen_in}
+use Rattle.club_check.specs.internal.Examined.{AreSeenOf, WerePlayed, past}
 use Rattle.club_check.specs.internal.Places.{last_moment}
 use Rattle.club_check.specs.Versions.{HoldsRows}
-use Rattle.club_check.specs.internal.RightMoves.{GamesWrong, HaveMovesOf, MovesWrong, SeenWrong}
+use Rattle.club_check.specs.internal.RightMoves.{GamesWrong, MovesRight, MovesWrong, RulingsRight, RulingsWrong}
+use Rattle.club_check.specs.internal.RightMoves.{SeenWrong, moves_in, rulings_at, seen_in}
 use Rattle.club_check.specs.declared.fault.OpenFault.{OpenFault}
 use Rattle.club_check.specs.declared.fault.OpenFault.TheVariants.{Damaged}
 use Rattle.club_check.specs.RightTables.{IsRight}
 
 -- ---- which table is named
 
--- moves, games or positions
+-- moves, rulings, games or positions
 abbrev pub IsOfPlay : Table → Type 0
-IsOfPlay t = (order Challenges < order t) × (order t < order Scores) × (t ≢ Rulings)
+IsOfPlay t = (order Challenges < order t) × (order t < order Scores)
 
 -- ---- table by table
 
@@ -56,34 +57,40 @@ IsUnheld db = HoldsNone db (λ version content. Unit {0})
 abbrev pub IsUntyped : Table → Database → Type 0
 IsUntyped t db = HoldsNone db (λ version content. HasTypes t content)
 
--- The moves are right, and these games with their moves are those of a club, whatever its last timestamp is.
-pub record AreSeated (rows : Rows) (db : Database) : Type 0 where
-  pub moves : HaveMovesOf rows (moves_in (club_trees db))
+-- The moves and the rulings are right, and these games with their moves and rulings are those of a club, whatever its
+-- last timestamp is.
+pub record AreSeated (rows : Rows) (version : Version) (db : Database) : Type 0 where
+  pub moves : MovesRight rows version db
+  pub rulings : RulingsRight rows version db
   pub apart : AreApartGames rows.games.items
   pub found : (s : ClubState) → HasPeople s rows
-      → WerePlayed (until last_moment s) rows.games.items (club_trees db) (length rows.games.items)
+      → WerePlayed (until last_moment s) rows.games.items version (club_trees db) (length rows.games.items)
   pub none_left : (s : ClubState) → HasPeople s rows
       → length (past (length rows.games.items) (moves_in (club_trees db))) ≡ 0
+  pub none_ruled : (s : ClubState) → HasPeople s rows
+      → length (past (length rows.games.items) (rulings_at version (club_trees db))) ≡ 0
 
--- the tables of moves and games are right, if a later table of moves, games and positions is named
-abbrev pub AreRightBefore : Rows → Database → Table → Type 0
-AreRightBefore rows db t =
-    (order Moves < order t → HaveMovesOf rows (moves_in (club_trees db))) × (order Games < order t → AreSeated rows db)
+-- the tables of moves, rulings and games are right, if a later table of moves, rulings, games and positions is named
+pub record AreRightBefore (rows : Rows) (version : Version) (db : Database) (t : Table) : Type 0 where
+  pub moves : order Moves < order t → MovesRight rows version db
+  pub rulings : order Rulings < order t → RulingsRight rows version db
+  pub games : order Games < order t → AreSeated rows version db
 
--- A table of moves, games or positions that is wrong for the rows that were read; those before it are right, if the
--- database holds any content.
-pub record IsWrongOfPlay (rows : Rows) (db : Database) (t : Table) : Type 0 where
+-- A table of moves, rulings, games or positions that is wrong for the rows that were read; those before it are right,
+-- if the database holds any content.
+pub record IsWrongOfPlay (rows : Rows) (version : Version) (db : Database) (t : Table) : Type 0 where
   pub play : IsOfPlay t
-  pub moves : t ≡ Moves → MovesWrong rows db
-  pub games : t ≡ Games → GamesWrong rows db
-  pub seen : t ≡ Seen → SeenWrong rows db
-  pub before : IsUnheld db ⊎ AreRightBefore rows db t
+  pub moves : t ≡ Moves → MovesWrong rows version db
+  pub rulings : t ≡ Rulings → RulingsWrong rows version db
+  pub games : t ≡ Games → GamesWrong rows version db
+  pub seen : t ≡ Seen → SeenWrong rows version db
+  pub before : IsUnheld db ⊎ AreRightBefore rows version db t
 
 -- only such a table is reported as damaged
-abbrev pub NamesPlayed : Rows → Database → OpenFault → Type 0
-NamesPlayed rows db fault = (t : Table) → fault ≡ Damaged t → IsWrongOfPlay rows db t
+abbrev pub NamesPlayed : Rows → Version → Database → OpenFault → Type 0
+NamesPlayed rows version db fault = (t : Table) → fault ≡ Damaged t → IsWrongOfPlay rows version db t
 
--- the wrong table is one of moves, games and positions, or `meta`
+-- the wrong table is one of moves, rulings, games and positions, or `meta`
 abbrev pub IsLater : Option Table → Type 0
 IsLater wrong = (t : Table) → wrong ≡ Some t → IsOfPlay t ⊎ (t ≡ Meta)
 
@@ -104,9 +111,9 @@ abbrev pub NamesScores : Rows → Database → OpenFault → Type 0
 NamesScores rows db fault = (t : Table) → fault ≡ Damaged t
     → (t ≡ Scores) × HoldsNone db (λ version content. HasScores rows content)
 
--- The games with their moves and positions are those of a club, and no row belongs to none of them.
-pub record ArePlayed (rows : Rows) (db : Database) : Type 0 where
-  pub seated : AreSeated rows db
+-- The games with their moves, rulings and positions are those of a club, and no row belongs to none of them.
+pub record ArePlayed (rows : Rows) (version : Version) (db : Database) : Type 0 where
+  pub seated : AreSeated rows version db
   pub seen_are : (s : ClubState) (people : HasPeople s rows) → AreSeenOf (seated.found s people).games (club_trees db)
   pub none_seen : (s : ClubState) → HasPeople s rows
       → length (past (length rows.games.items) (seen_in (club_trees db))) ≡ 0
@@ -117,18 +124,18 @@ pub record AreScored (rows : Rows) (db : Database) : Type 0 where
   pub keeps : Keeps (standing Scores) (club_trees db) scored
   pub are : (s : ClubState) → AreGamesOf s rows.games.items → AreEachOnce scored (scores_in both_games s.games)
 
--- a table after the challenges that is named: one of moves, games and positions; or the scores, if those are right; or
--- `meta`, if the scores are right, too
-abbrev pub IsNamedAfter : Rows → Database → Table → Type 0
-IsNamedAfter rows db t = IsWrongOfPlay rows db t
-    ⊎ (((t ≡ Scores) × ArePlayed rows db × HoldsNone db (λ version content. HasScores rows content))
-    ⊎ ((t ≡ Meta) × ArePlayed rows db × AreScored rows db))
+-- a table after the challenges that is named: one of moves, rulings, games and positions; or the scores, if those are
+-- right; or `meta`, if the scores are right, too
+abbrev pub IsNamedAfter : Rows → Version → Database → Table → Type 0
+IsNamedAfter rows version db t = IsWrongOfPlay rows version db t
+    ⊎ (((t ≡ Scores) × ArePlayed rows version db × HoldsNone db (λ _ content. HasScores rows content))
+    ⊎ ((t ≡ Meta) × ArePlayed rows version db × AreScored rows db))
 
--- the meaning of an error about the rows that were read and those of moves, positions and scores
-abbrev pub NamesExamined : Rows → Database → OpenFault → Type 0
-NamesExamined rows db fault = (t : Table) → fault ≡ Damaged t
+-- the meaning of an error about the rows that were read and those of moves, rulings, positions and scores
+abbrev pub NamesExamined : Rows → Version → Database → OpenFault → Type 0
+NamesExamined rows version db fault = (t : Table) → fault ≡ Damaged t
     → ((t ≡ Challenges) × ((cs : List Challenge) → ¬ AreChallenges cs rows))
-    ⊎ (((cs : List Challenge) × AreChallenges cs rows) × IsNamedAfter rows db t)
+    ⊎ (((cs : List Challenge) × AreChallenges cs rows) × IsNamedAfter rows version db t)
 
 -- the rows of events of every club whose events the database may hold
 abbrev pub TellsEvents : List EventRow → Database → Type 0

@@ -6,10 +6,10 @@ use Rattle.squares.specs.declared.sides.Side.{Side}
 use Rattle.club_rules.specs.GameRules.{GameRules}
 use Rattle.club_rules.specs.Line.{times_stood, FirstStands}
 use Rattle.club_core.specs.declared.rows.GameEnd.{GameEnd}
-use Rattle.club_core.specs.declared.rows.GameEnd.TheVariants.{Rule, Outside}
-use Rattle.club_requests.specs.declared.outside_end.OutsideEnd.{OutsideEnd}
+use Rattle.club_core.specs.declared.rows.GameEnd.TheVariants.{Rule, Verdict, Outside}
 use Rattle.club_core.specs.declared.rows.GameView.{GameView}
 use Rattle.club_core.specs.declared.rows.Made.{Made}
+use Rattle.club_core.specs.declared.rows.StoredRulings.{StoredRulings}
 use Rattle.club_core.specs.declared.settling.Settled.{Settled}
 use Rattle.club_requests.specs.declared.answers.Answer.{Answer}
 use Rattle.club_requests.specs.declared.answers.Answer.TheVariants as given
@@ -18,6 +18,7 @@ use Rattle.club_core.specs.declared.decided.Decision.TheVariants as decision
 use Rattle.club_core.specs.Events.{Terms}
 use Rattle.club_requests.specs.Outcome.{Outcome, accepted, repeated, refused}
 use Rattle.club_core.specs.Answer.{reply_of}
+use Rattle.club_core.specs.Rulings.{ruling_under}
 use Rattle.club_core.specs.Game.{Game, moves_of, last_position, score_with}
 use Rattle.club_core.specs.Game.{left_of, left_after}
 use Rattle.club_core.specs.View.{clocks_in, IsRowOf}
@@ -26,13 +27,8 @@ use Rattle.club_core.specs.View.{clocks_in, IsRowOf}
 abbrev pub rule_in : {E : Type 0} → Option (GameEnd E) → Option E
 rule_in None = None
 rule_in (Some (Rule e)) = Some e
+rule_in (Some (Verdict v)) = None
 rule_in (Some (Outside o)) = None
-
--- the end for an outside reason
-abbrev pub outside_in : {E : Type 0} → Option (GameEnd E) → Option OutsideEnd
-outside_in None = None
-outside_in (Some (Rule e)) = None
-outside_in (Some (Outside o)) = Some o
 
 -- the new move with the position after it
 abbrev pub IsMade : {R P M E T : Type 0} → GameRules P M E T → Game M → Option M → Option (Made R P M E T) → Type 0
@@ -44,6 +40,11 @@ IsMade rules game (Some m) (Some made) = (made.made ≡ m) × (made.position ≡
 -- the end that the rules give, and its result given the side to move
 abbrev pub settled_by : {R P M E T : Type 0} → GameRules P M E T → Option E → Side → Settled R P M E T
 settled_by rules end turn = record { end = option_map Rule end; result = score_with rules (option_map Rule end) turn }
+
+-- the data holds the number of the rulings on the game, and the ruling under this number, if there is one
+pub record ShowsRulings {M : Type 0} (game : Game M) (number : ℕ) (stored : StoredRulings) : Type 0 where
+  pub count : stored.count ≡ length game.rulings
+  pub asked : stored.asked ≡ ruling_under game.rulings number
 
 -- The end and the result of the game after a decision. A move is judged by the track, the new position, its number of
 -- occurrences and the ply after which it first occurred; any other decision keeps the values of its row.
@@ -71,6 +72,7 @@ answer_with rules end (given.ChallengeRefused number) = given.ChallengeRefused n
 answer_with rules end (given.ChallengeAccepted number game) = given.ChallengeAccepted number game
 answer_with rules end (given.KeyGiven number) = given.KeyGiven number
 answer_with rules end given.EventClosed = given.EventClosed
+answer_with rules end (given.RulingGiven number) = given.RulingGiven number
 
 -- the decision with this end and this result
 abbrev pub concluded : {R P M E T : Type 0} →
@@ -133,7 +135,7 @@ IsDecision rules terms old outcome decision =
 -- the conditions of an accepted move that leaves the mover this many seconds
 pub record CanPlay {R P M E T : Type 0} (rules : GameRules P M E T) (view : GameView R P M E T) (turn : Side) (m : M)
     (seconds moment : ℕ) : Type 0 where
-  pub running : view.row.result ≡ None
+  pub running : view.row.end ≡ None
   pub to_move : turn ≡ rules.turn view.position
   pub legal : rules.check view.position m ≡ Ok tt
   pub left : seconds ≡ left_after (left_of turn (clocks_in view.row)) view.increment (moment - view.row.since)

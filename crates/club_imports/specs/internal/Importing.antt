@@ -5,18 +5,19 @@ use Rattle.club_rules.specs.GameRules.{GameRules}
 use Rattle.club_rules.specs.Records as record_is
 use Rattle.club_rules.specs.Records.{Reading, IsGameByRules}
 use Rattle.club_rules.specs.internal.Records.{recorded_of}
-use Rattle.club_core.specs.Game.{Game, moves_of, result_of}
+use Rattle.club_core.specs.Game.{Game, moves_of, result_beneath}
 use Rattle.club_core.specs.Imports.{Imported}
 use Rattle.club_requests.specs.Outcome.{Outcome, accepted, repeated, refused, game_seated}
 use Rattle.club_imports.specs.declared.imports.ImportDecision as given_importing
 use Rattle.club_imports.specs.declared.imports.ImportDecision.TheVariants as importing
 use Rattle.club_imports.specs.declared.played.PlayedGame.{PlayedGame}
 
--- the moves and the result of the game
+-- the moves of the game, and its result without the arbiter's verdict
 abbrev pub IsPlayedOf : {P M E T : Type 0} → GameRules P M E T → Game M → PlayedGame M → Type 0
-IsPlayedOf rules game played = (played.moves.items ≡ moves_of game) × (played.result ≡ result_of rules game)
+IsPlayedOf rules game played =
+    (played.moves.items ≡ moves_of game) × (played.result ≡ result_beneath rules game)
 
--- the moves and the result of the game under the key, if there is one
+-- the same of the game under the key, if there is one
 abbrev pub ShowsPlayed : {P M E T : Type 0} → GameRules P M E T → Option (Game M) → Option (PlayedGame M) → Type 0
 ShowsPlayed rules None None = Unit {0}
 ShowsPlayed rules (Some game) None = ⊥

@@ -8,7 +8,7 @@ use Rattle.club_lists.specs.declared.game_entry.RunningGame.{RunningGame}
 use Rattle.club_lists.specs.GameSummary.{Over, GameSummary, Running}
 
 abbrev pub over_by : GameOver → Over
-over_by over = record { end = string_bytes over.end; result = string_bytes over.result }
+over_by over = record { end = string_bytes over.end; result = option_map string_bytes over.result }
 
 abbrev pub summary_of : GameEntry → GameSummary
 summary_of game = record {

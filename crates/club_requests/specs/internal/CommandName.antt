@@ -27,4 +27,5 @@ command_name (command.OnGame given) = game_command_name given.command
 command_name command.Sweep = Some (codes "sweep")
 command_name (command.NewKey given) = Some (codes "key")
 command_name (command.CloseEvent given) = Some (codes "close")
+command_name (command.Rule given) = Some (codes "rule")
 command_name _ = None

@@ -1,6 +1,7 @@
 -- The typed columns of a game's row: their row, and their legal values. No promise of the program rests on these
 -- definitions.
-use Rattle.std.specs.Prelude.{◌≡◌, ◌≤◌, ◌<◌, ◌^◌, ℕ, pos, List, [], ◌∷◌, length, Option, Some, None, IfSome, IsSome}
+use Rattle.std.specs.Prelude.{◌≡◌, ◌≢◌, ◌≤◌, ◌<◌, ◌^◌, ℕ, pos, List, [], ◌∷◌, length, Option, Some, None, IfSome}
+use Rattle.std.specs.Prelude.{IsSome}
 use Rattle.std.specs.Prelude.{string_bytes}
 use Rattle.std.specs.Option.{option_map}
 use Rattle.sqlite_value.specs.declared.value.Value.TheVariants.{Text}
@@ -14,11 +15,13 @@ use Rattle.club_requests.specs.declared.outside_end.OutsideEnd.{OutsideEnd}
 use Rattle.club_requests.specs.declared.outside_end.OutsideEnd.TheVariants.{Recorded}
 use Rattle.club_requests.specs.Limits.{last_moment, most_plies}
 use Rattle.club_requests.specs.OutsideEnd.{outside_text}
+use Rattle.club_requests.specs.declared.rulings.Verdict.{Verdict}
+use Rattle.club_requests.specs.Rulings.{verdict_score, verdict_text}
 use Rattle.club_core.specs.declared.rows.GameRow.{GameRow}
-use Rattle.club_core.specs.declared.rows.GameEnd.{GameEnd}
 use Rattle.club_core.specs.declared.rows.Offer.{Offer}
 use Rattle.club_core.specs.Events.{Terms}
-use Rattle.club_core.specs.Game.{Entry, Game, clocks_of, moves_of, last_position, end_of, result_of, end_with}
+use Rattle.club_core.specs.Game.{Entry, Game, clocks_of, moves_of, last_position, end_of, result_of}
+use Rattle.club_core.specs.Rulings.{GivenRuling}
 use Rattle.club_core.specs.View.{CanGrow}
 use Rattle.store_tables.specs.declared.rows.GameTableRow.{GameTableRow}
 use Rattle.club_rows.specs.Tables.{number, side_number, end_name_text}
@@ -170,18 +173,24 @@ IsNamedIn c outside =
     (end : Option OutsideEnd) → c.end ≡ option_map outside_text end
     → ((s : Score) → end ≡ Some (Recorded s) → c.result ≡ Some s) → outside ≡ end
 
--- the same if the rules have not ended the game, else None
-pub record IsOutsideIn {E : Type 0} (c : Columns) (ruled : Option E) (outside : Option OutsideEnd) : Type 0 where
-  pub alone : IsSome outside → ruled ≡ None
-  pub named : ruled ≡ None → IsNamedIn c outside
+-- the verdict that the columns name, if the rules have not ended the game
+abbrev pub IsVerdictIn : Columns → Option Verdict → Type 0
+IsVerdictIn c verdict =
+    (v : Option Verdict) → ((given : Verdict) → v ≡ Some given → (c.end ≡ Some (verdict_text given))
+    × (c.result ≡ verdict_score given))
+    → (v ≡ None → (given : Verdict) → c.end ≢ Some (verdict_text given)) → verdict ≡ v
 
--- the end is that of the rules if they give one, else that of the columns
-abbrev pub IsEndIn : {E : Type 0} → Columns → Option E → Option (GameEnd E) → Type 0
-IsEndIn c ruled end = (outside : Option OutsideEnd) × (end ≡ end_with ruled outside) × IsOutsideIn c ruled outside
+-- The end outside the rules: the one beneath the verdict if there is a verdict, else the one that the columns name if
+-- the rules have not ended the game.
+pub record IsOutsideIn {E : Type 0} (c : Columns) (ruled : Option E) (verdict : Option Verdict)
+    (beneath outside : Option OutsideEnd) : Type 0 where
+  pub judged : IsSome verdict → outside ≡ beneath
+  pub alone : verdict ≡ None → IsSome outside → ruled ≡ None
+  pub named : verdict ≡ None → ruled ≡ None → IsNamedIn c outside
 
--- the game with these entries and the values of the columns
-abbrev pub game_in : {M : Type 0} → Columns → Option OutsideEnd → List (Entry M) → Game M
-game_in c outside entries =
+-- the game with these entries and rulings, and the values of the columns
+abbrev pub game_in : {M : Type 0} → Columns → Option OutsideEnd → List GivenRuling → List (Entry M) → Game M
+game_in c outside rulings entries =
     record {
       key = c.key;
       event = c.event;
@@ -191,4 +200,5 @@ game_in c outside entries =
       entries = entries;
       offer = c.offer;
       outside = outside;
+      rulings = rulings;
     }

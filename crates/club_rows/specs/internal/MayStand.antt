@@ -4,9 +4,8 @@ use Rattle.std.specs.Prelude.{is_some, string_bytes}
 use Rattle.std.specs.Option.{option_map}
 use Rattle.club_core.specs.declared.rows.GameRow.{GameRow}
 use Rattle.club_core.specs.declared.rows.GameView.{GameView}
-use Rattle.club_core.specs.declared.rows.GameEnd.{GameEnd}
-use Rattle.club_core.specs.declared.rows.GameEnd.TheVariants.{Rule, Outside}
 use Rattle.club_core.specs.declared.rows.Offer.{Offer}
+use Rattle.club_requests.specs.declared.outside_end.OutsideEnd.{OutsideEnd}
 use Rattle.club_requests.specs.internal.OutsideEnd.{outside_allowed}
 use Rattle.club_requests.specs.Limits.{is_name}
 use Rattle.club_core.specs.internal.View.{rule_in}
@@ -22,10 +21,9 @@ may_have_offer allowed plies ended None = true
 may_have_offer allowed plies ended (Some offer) = allowed && not ended && offer.ply == plies + 1
 
 -- An end outside the rules must be allowed: a record needs a key, no offer, and all moves at the start.
-abbrev pub may_have_end : {E : Type 0} → Bool → Bool → Bool → ℕ → ℕ → Option (GameEnd E) → Bool
+abbrev pub may_have_end : Bool → Bool → Bool → ℕ → ℕ → Option OutsideEnd → Bool
 may_have_end key offer declares start since None = true
-may_have_end key offer declares start since (Some (Rule e)) = true
-may_have_end key offer declares start since (Some (Outside end)) =
+may_have_end key offer declares start since (Some end) =
     outside_allowed offer declares (key && not offer && since == start) end
 
 -- the event allows declarations, and the side to move may declare a win
@@ -37,4 +35,4 @@ may_stand allowed declares row =
     may_have_key (option_map (λ s. string_bytes s) row.key)
     && not (row.first == row.second)
     && may_have_offer allowed row.plies (is_some (rule_in row.end)) row.offer
-    && may_have_end (is_some row.key) (is_some row.offer) declares row.start row.since row.end
+    && may_have_end (is_some row.key) (is_some row.offer) declares row.start row.since row.outside

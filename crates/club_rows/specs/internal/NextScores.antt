@@ -1,5 +1,5 @@
 -- The rows of scores of two players after one more game. No promise of the program rests on these definitions.
-use Rattle.std.specs.Prelude.{◌≡◌, ◌+ℤ◌, ℕ, pos, true, List, [], ◌∷◌, ◌++◌, Option, Some, None}
+use Rattle.std.specs.Prelude.{◌≡◌, ◌+ℤ◌, ℕ, pos, negsuc, true, List, [], ◌∷◌, ◌++◌, Option, Some, None}
 use Rattle.std.specs.Int.RustNames.{FitsSigned}
 use Rattle.std.specs.Int.{w64}
 use Rattle.sqlite_value.specs.declared.value.Value.TheVariants.{Int}
@@ -12,7 +12,7 @@ use Rattle.store_tables.specs.declared.rows.ScoreRow.{ScoreRow}
 use Rattle.club_rows.specs.Scores.{Meeting, meetings, wins, draws, losses, points, scores_of, score_row, score_rows}
 use Rattle.club_rows.specs.declared.scores.Pair.{Pair}
 use Rattle.club_rows.specs.declared.scores.OwnScore.{OwnScore}
-use Rattle.club_rows.specs.declared.scores.OwnScore.TheVariants.{Won, Drew, Lost}
+use Rattle.club_rows.specs.declared.scores.OwnScore.TheVariants.{Won, Drew, Lost, Void}
 use Rattle.club_rows.specs.declared.scores.ScoreRows.{ScoreRows}
 use Rattle.club_rows.specs.declared.scores.ScoreSums.{ScoreSums}
 
@@ -43,10 +43,19 @@ pub record AreFound (event first second : ℕ) (firsts seconds : Option ScoreRow
   pub of_second : IsFound (score_rows ms) (pair_of event second first) seconds
 
 -- if the rows found sum up any ended games, the new rows sum up these and one more
-abbrev pub AreNext : (event first second : ℕ) → Score → (firsts seconds : Option ScoreRow) → ScoreRows → Type 0
+abbrev pub AreNext : (event first second : ℕ) → Option Score → (firsts seconds : Option ScoreRow) → ScoreRows → Type 0
 AreNext event first second score firsts seconds rows =
     (before after : List Meeting) → AreFound event first second firsts seconds (before ++ after)
     → AreScoresOf (before ++ (meetings (pos event) (pos first) (pos second) score ++ after)) event first second rows
+
+-- if the rows found sum up any ended games with one of this score, the new rows sum up the same with another score
+abbrev pub AreChanged : (event first second : ℕ) → (old new : Option Score) → (firsts seconds : Option ScoreRow)
+    → ScoreRows → Type 0
+AreChanged event first second old new firsts seconds rows =
+    (before after : List Meeting)
+    → AreFound event first second firsts seconds
+    (before ++ (meetings (pos event) (pos first) (pos second) old ++ after))
+    → AreScoresOf (before ++ (meetings (pos event) (pos first) (pos second) new ++ after)) event first second rows
 
 -- ---- sums in the tables
 
@@ -65,6 +74,7 @@ abbrev pub gains_of : OwnScore → ScoreSums
 gains_of Won = record { points = pos 2; wins = pos 1; draws = pos 0; losses = pos 0 }
 gains_of Drew = record { points = pos 1; wins = pos 0; draws = pos 1; losses = pos 0 }
 gains_of Lost = record { points = pos 0; wins = pos 0; draws = pos 0; losses = pos 1 }
+gains_of Void = record { points = pos 0; wins = pos 0; draws = pos 0; losses = pos 0 }
 
 abbrev pub plus_sums : ScoreSums → ScoreSums → ScoreSums
 plus_sums a b =
@@ -74,6 +84,13 @@ plus_sums a b =
       draws = a.draws +ℤ b.draws;
       losses = a.losses +ℤ b.losses;
     }
+
+-- the sums that take one result back
+abbrev pub undoing : OwnScore → ScoreSums
+undoing Won = record { points = negsuc 1; wins = negsuc 0; draws = pos 0; losses = pos 0 }
+undoing Drew = record { points = negsuc 0; wins = pos 0; draws = negsuc 0; losses = pos 0 }
+undoing Lost = record { points = pos 0; wins = pos 0; draws = pos 0; losses = negsuc 0 }
+undoing Void = record { points = pos 0; wins = pos 0; draws = pos 0; losses = pos 0 }
 
 pub record Fit (sums : ScoreSums) : Type 0 where
   pub points : FitsSigned w64 sums.points

@@ -10,7 +10,7 @@ use Rattle.cli.specs.declared.words.Invocation.TheVariants as words
 use Rattle.cli.specs.internal.Inputs.{IsTaskWith}
 use Rattle.control_socket.specs.declared.orders.Operation.{Operation}
 use Rattle.control_socket.specs.declared.orders.Operation.TheVariants.{Command, Question}
-use Rattle.http_desk.specs.Served.{IsOfCall, IsOfCommand}
+use Rattle.http_desk.specs.Served.{IsOfCommand, IsOfQuestion}
 use Rattle.http_desk.specs.declared.faults.ClubFault.{ClubFault}
 use Rattle.club_core.specs.Answer.{command_of}
 
@@ -34,7 +34,8 @@ operation_of (task.Request command) = Some (Command command)
 operation_of (task.Ask question) = Some (Question question)
 operation_of _ = None
 
--- the operation of a command line with its record or its new key; batches, round robins and `serve` have none
+-- the operation of a command line with its record or its new key; batches, round robins, rulings on many games and
+-- `serve` have none
 abbrev pub IsOperationOf : Invocation → List ℕ → Option Operation → Type 0
 IsOperationOf (words.Order order) text errand =
     (given : Vec ℕ Global) × (task : Task) × (given.items ≡ text) × IsTaskWith given order.task task
@@ -44,4 +45,4 @@ IsOperationOf _ text errand = errand ≡ None
 -- the faults of an operation on an open club
 abbrev pub IsOfOperation : Operation → ClubFault → Type 0
 IsOfOperation (Command command) fault = IsOfCommand (command_of command) fault
-IsOfOperation (Question question) fault = IsOfCall fault
+IsOfOperation (Question question) fault = IsOfQuestion question fault

@@ -4,7 +4,7 @@ use anyhow::{Context, Result, bail};
 use clocks::Moment;
 use club_requests::{
     AddEvent, AddMember, AnswerChallenge, CloseEvent, Command, GameCommand, Import, NewKey, OnGame,
-    OpenChallenge, Request, Seat, Who, Withdraw,
+    OpenChallenge, Request, Rule, Ruling, Seat, Who, Withdraw,
 };
 use club_rules::{GameKind, RecordFormat};
 use std::alloc::Global;
@@ -135,6 +135,11 @@ fn command(alloc: Global, words: &[&str]) -> Result<Command> {
         })),
         ["close", event] => Ok(Command::CloseEvent(CloseEvent {
             event: text(alloc, event)?,
+        })),
+        ["rule", game, number, ref ruling @ ..] => Ok(Command::Rule(Rule {
+            game: game.parse()?,
+            number: number.parse()?,
+            ruling: Ruling::parse(ruling).context("no such ruling")?,
         })),
         ["sweep"] => Ok(Command::Sweep),
         _ => challenge_command(alloc, words),

@@ -1,6 +1,7 @@
 //! Queries on an open club. A query changes nothing.
 
-ghost use Rattle.std.specs.Prelude.{◌≡◌, ◌⊎◌, true, false, Err, IfOk, IfErr, OnOk};
+ghost use Rattle.std.specs.Prelude.{◌≡◌, ◌⊎◌, pos, true, false, Err, IfOk, IfErr, OnOk};
+ghost use Rattle.club_requests.specs.Questions.{is_arbiters};
 ghost use Rattle.sqlite.specs.State.{HasCleanDisk};
 ghost use Rattle.sqlite.specs.Held.{state};
 ghost use Rattle.store_tables.specs.Reading.{Reads};
@@ -25,7 +26,8 @@ impl<S: Alter> Club<S> {
     ///
     /// - `AskFault::Output`: the writer failed. The club stays open; the writer has a prefix of the answer.
     /// - `AskFault::Club`: a call of the database failed or it holds rows that no club has (`Store`), memory ran out
-    ///   (`Memory`), or an earlier call failed (`Reopen`). Every later call returns `Reopen`.
+    ///   (`Memory`), or an earlier call failed (`Reopen`). Every later call returns `Reopen`. A club without an arbiter
+    ///   does not answer an arbiter's query (`Schema(2)`); it stays open, and nothing was read.
     ///
     /// # Guarantees
     ///
@@ -43,9 +45,17 @@ impl<S: Alter> Club<S> {
             (result ≡ Err (AskFault.Club StoreFault.Reopen)) × (self.new ≡ self.old) × (writer.new ≡ writer.old) }
         ensures stays_open { OnOk result (self.new.needs_reopening ≡ false) }
         ensures output { result ≡ Err AskFault.Output → self.new.needs_reopening ≡ false }
-        ensures ends { IfErr result (λ fault. (fault ≡ AskFault.Output) ⊎ (self.new.needs_reopening ≡ true)) }
-        ensures possible_faults { IfErr result (λ fault. self.old.needs_reopening ≡ false → (fault ≡ AskFault.Output) ⊎
-            ((fault ≡ AskFault.Club StoreFault.Store) ⊎ (fault ≡ AskFault.Club StoreFault.Memory))) }
+        ensures ends { IfErr result (λ fault. (fault ≡ AskFault.Output)
+            ⊎ ((fault ≡ AskFault.Club (StoreFault.Schema (pos 2))) ⊎ (self.new.needs_reopening ≡ true))) }
+        ensures possible_faults { IfErr result (λ fault. self.old.needs_reopening ≡ false → (fault ≡ AskFault.Output)
+            ⊎ ((fault ≡ AskFault.Club (StoreFault.Schema (pos 2)))
+            ⊎ ((fault ≡ AskFault.Club StoreFault.Store) ⊎ (fault ≡ AskFault.Club StoreFault.Memory)))) }
+        // A club without an arbiter does not answer an arbiter's query, and goes on.
+        ensures other_schema { self.old.needs_reopening ≡ false → self.old.has_arbiter ≡ false →
+            is_arbiters question.now ≡ true → (result ≡ Err (AskFault.Club (StoreFault.Schema (pos 2))))
+            × (self.new ≡ self.old) × (writer.new ≡ writer.old) }
+        ensures only_then { result ≡ Err (AskFault.Club (StoreFault.Schema (pos 2))) →
+            (self.old.has_arbiter ≡ false) × (is_arbiters question.now ≡ true) }
         ensures reads { Reads (stays_open result) (state S.Store self.old.connection)
             (state S.Store self.new.connection) }
         ensures shown { HasCleanDisk (state S.Store self.new.connection) → IfOk result (λ refusal. (s : ClubState) →
@@ -57,6 +67,9 @@ impl<S: Alter> Club<S> {
     {
         if self.needs_reopening {
             return Err(AskFault::Club(StoreFault::Reopen));
+        }
+        if !self.has_arbiter && question.is_arbiters() {
+            return Err(AskFault::Club(StoreFault::Schema(2)));
         }
         match answer(
             alloc,

@@ -1,9 +1,9 @@
 -- All rows of a club, for a copy. No promise of the program rests on these definitions.
 use Rattle.std.specs.Prelude.{◌≡◌, ℤ, [], Some, map}
-use Rattle.store_tables.specs.Cells.{event_cells, move_cells, game_cells}
+use Rattle.store_tables.specs.Cells.{event_cells, move_cells, game_cells, ruling_cells}
 use Rattle.store_tables.specs.internal.Cells.{member_cells, challenge_cells}
 use Rattle.store_tables.specs.Cells.{seen_cells}
-use Rattle.store_tables.specs.internal.Cells.{closing_cells, event_rule_cells, key_cells, ruling_cells, score_cells}
+use Rattle.store_tables.specs.internal.Cells.{closing_cells, event_rule_cells, key_cells, score_cells}
 use Rattle.store_tables.specs.internal.Changed.{maybe_row}
 use Rattle.store_tables.specs.Changes.{HaveSame}
 use Rattle.store_tables.specs.Contents.{Content}

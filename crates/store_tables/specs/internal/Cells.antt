@@ -45,13 +45,6 @@ score_cells r = Int r.event ∷ Int r.member ∷ Int r.opponent ∷ Int r.points
 abbrev pub key_cells : KeyRow → Row
 key_cells r = Int r.member ∷ Int r.number ∷ Text (string_bytes r.key) ∷ []
 
--- the column values of a row of `rulings`
-abbrev pub ruling_cells : RulingRow → Row
-ruling_cells r =
-    Int r.game ∷ Int r.number ∷ Int r.moment ∷ Int r.ply ∷ Int r.kind ∷ Int r.seconds
-    ∷ or_null (λ s. Text (string_bytes s)) r.result ∷ or_null (λ s. Text (string_bytes s)) r.beneath
-    ∷ or_null (λ s. Text (string_bytes s)) r.beneath_result ∷ []
-
 -- the column values of a row of `closings`
 abbrev pub closing_cells : ClosingRow → Row
 closing_cells r = Int r.event ∷ Int r.moment ∷ []

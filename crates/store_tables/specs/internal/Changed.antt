@@ -4,11 +4,11 @@ use Rattle.std.specs.Prelude.{◌≡◌, ℤ, pos, List, [], ◌∷◌, map, Opt
 use Rattle.sqlite_value.specs.declared.value.Value.TheVariants.{Int}
 use Rattle.sqlite.specs.Order.{Row}
 use Rattle.store_tables.specs.internal.Changes.{Alters}
-use Rattle.store_tables.specs.Cells.{event_cells, move_cells, game_cells}
+use Rattle.store_tables.specs.Cells.{event_cells, move_cells, game_cells, ruling_cells}
 use Rattle.store_tables.specs.internal.Cells.{meta_cells, member_cells, challenge_cells}
 use Rattle.store_tables.specs.Cells.{seen_cells}
 use Rattle.store_tables.specs.internal.Cells.{event_rule_cells, score_cells}
-use Rattle.store_tables.specs.internal.Cells.{closing_cells, key_cells, ruling_cells}
+use Rattle.store_tables.specs.internal.Cells.{closing_cells, key_cells}
 use Rattle.store_tables.specs.Contents.{Content}
 use Rattle.store_tables.specs.internal.Contents.{put_in, put_each}
 use Rattle.store_tables.specs.Names.{tree_of}

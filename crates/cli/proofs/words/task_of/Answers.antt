@@ -31,6 +31,9 @@ returns-in_default-clause-err c =
     (other_than _ _ _ is.not-challenges
     (other_than _ _ _ is.not-verify
     (other_than _ _ _ is.not-upgrade
-    (other_than _ _ false is.not-backup refl)))))))))))) in
+    (other_than _ _ _ is.not-backup
+    (other_than _ _ _ is.not-rulings
+    (other_than _ _ _ is.not-retire
+    (other_than _ _ false is.not-extend refl))))))))))))))) in
     IfErr-weaker c.request_of.result _ _ (λ told no. told_weaker _ _ told (λ none. inl (other, none)) no)
     c.request_of.ensures.err

@@ -1,7 +1,6 @@
 use Rattle.store_tables.proofs.Proved.{reads_on, ended}
 use Rattle.std.proofs.Common.{inr}
 use Rattle.std.proofs.lemmas.Result.{IfOk-weaker}
-use Rattle.club_rows.proofs.Proved.{stores-rows}
 use Rattle.club_answers.proofs.CallLemmas.{between}
 use Rattle.club_answers.proofs.RecordLemmas.{records_shown, some_records_shown, text_begun}
 use Rattle.club_answers.proofs.answers.answer.Goals as goal
@@ -14,13 +13,13 @@ returns-in-Record-clause-shown g c clean =
     IfOk-weaker c.write_record.result _ _ (λ refusal told s is_club version k.
     let (found, kept) = between s c.in_ok-found.ensures.reads c.write_record.ensures.reads clean k in
     let asked = rw c.in-Record.is at (c.in_ok-found.ensures.found found s is_club version k) in
-    rw asked (told s c.args.moment is_club (stores-rows s _ kept))) (c.write_record.ensures.shown clean)
+    rw asked (told s c.args.moment is_club kept)) (c.write_record.ensures.shown clean)
 
 pub returns-in-Record-clause-begun : goal.returns-in-Record-clause-begun
 returns-in-Record-clause-begun g c clean s is_club version k =
     let (found, kept) = between s c.in_ok-found.ensures.reads c.write_record.ensures.reads clean k in
     let asked = rw c.in-Record.is at (c.in_ok-found.ensures.found found s is_club version k) in
-    rw asked (c.write_record.ensures.begun clean s c.args.moment is_club (stores-rows s _ kept))
+    rw asked (c.write_record.ensures.begun clean s c.args.moment is_club kept)
 
 pub returns-in-Text-clause-reads : goal.returns-in-Text-clause-reads
 returns-in-Text-clause-reads g c = ended _ c.in_ok-found.ensures.reads
@@ -40,11 +39,11 @@ returns-in-Records-clause-shown g c clean =
     let (found, kept) = between s c.in_ok-found.ensures.reads c.write_records.ensures.reads clean k in
     let asks = rw c.in-Records.is at (c.in_ok-found.ensures.found found s is_club version k) in
     records_shown s c.args.moment c.args.question.now _ _ _ asks c.deref.ensures.value _ _ refusal
-    (told s is_club (stores-rows s _ kept))) (c.write_records.ensures.written clean)
+    (told s is_club kept)) (c.write_records.ensures.written clean)
 
 pub returns-in-Records-clause-begun : goal.returns-in-Records-clause-begun
 returns-in-Records-clause-begun g c clean s is_club version k =
     let (found, kept) = between s c.in_ok-found.ensures.reads c.write_records.ensures.reads clean k in
     let asks = rw c.in-Records.is at (c.in_ok-found.ensures.found found s is_club version k) in
     some_records_shown s c.args.moment c.args.question.now _ _ _ asks c.deref.ensures.value _ _
-    (c.write_records.ensures.begun clean s is_club (stores-rows s _ kept))
+    (c.write_records.ensures.begun clean s is_club kept)

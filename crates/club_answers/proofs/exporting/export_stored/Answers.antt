@@ -2,6 +2,7 @@ use Rattle.store_tables.proofs.Proved.{clean_before, rows_after, reads_on}
 use Rattle.std.proofs.Common.{inl, inr}
 use Rattle.std.proofs.lemmas.Result.{on_ok_weaker}
 use Rattle.club_rows.specs.Club.{tables}
+use Rattle.club_rows.proofs.Proved.{stores-rows}
 use Rattle.club_answers.proofs.exporting.export_stored.Goals as goal
 
 pub returns-clause-reads : goal.returns-clause-reads
@@ -14,7 +15,7 @@ returns-clause-written g c clean =
       game,
       at,
       c.in_ok-names.names,
-      c.in_ok-names.ensures.names looked s id game is_club at is k,
+      c.in_ok-names.ensures.names looked s id game is_club at is (stores-rows s _ k),
       adds s id game is_club at is (rows_after c.in_ok-names.ensures.reads looked (tables s) k),
     ))
     (c.export_in.ensures.written clean)
@@ -26,5 +27,5 @@ returns-clause-begun g c clean s id game is_club at is k =
     (rows_after c.in_ok-names.ensures.reads looked (tables s) k)) [
       | inl same ↦ inl (λ i. g.W.Write.contents (same i))
       | inr begun ↦
-          inr (game, at, c.in_ok-names.names, c.in_ok-names.ensures.names looked s id game is_club at is k, begun)
+          inr (game, at, c.in_ok-names.names, c.in_ok-names.ensures.names looked s id game is_club at is (stores-rows s _ k), begun)
     ]

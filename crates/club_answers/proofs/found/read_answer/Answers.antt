@@ -4,7 +4,7 @@ use Rattle.club_answers.specs.Analyses.{IsAnalysisText, IsNoAnalysis}
 use Rattle.club_answers.specs.AnswerTexts.{IsLegalText, IsNoGame}
 use Rattle.club_answers.specs.Boards.{IsBoardText}
 use Rattle.club_answers.specs.GameBodies.{IsGameBody, IsMovesBody}
-use Rattle.club_answers.proofs.FoundLemmas.{found_stored}
+use Rattle.club_answers.proofs.FoundLemmas.{found_in_rows, found_stored}
 use Rattle.club_answers.proofs.found.read_answer.Goals as goal
 
 pub returns-in-LegalMoves-clause-found : goal.returns-in-LegalMoves-clause-found
@@ -33,6 +33,6 @@ returns-in-Board-clause-found g c clean =
 
 pub returns-in-Analysis-clause-found : goal.returns-in-Analysis-clause-found
 returns-in-Analysis-clause-found g c clean =
-    found_stored (λ s. IsAnalysisText s (analysis_view c.in-Analysis.asked)) (λ s. IsNoAnalysis s (analysis_view c.in-Analysis.asked)) c.args.moment
+    found_in_rows (λ s. IsAnalysisText s (analysis_view c.in-Analysis.asked)) (λ s. IsNoAnalysis s (analysis_view c.in-Analysis.asked)) c.args.moment
     (question.Analysis c.in-Analysis.asked) (λ s text is. is) (λ s refusal is. is) c.args.version _ _ c.analysis.result
     c.in-Analysis.is (c.analysis.ensures.found clean)

@@ -20,7 +20,7 @@ pub returns-clause-page : goal.returns-clause-page
 returns-clause-page g c clean s id game is_club at is version k =
     let (first, one, second, two) = between_three s c.in_ok-last.ensures.reads c.in_ok-members.ensures.reads
     c.in_ok-page.ensures.reads clean k in
-    let page = c.in_ok-page.ensures.page clean s id game is_club at is (stores-rows s _ two) in
+    let page = c.in_ok-page.ensures.page clean s id game is_club at is two in
     let members = ap members_of c.deref.ensures.value ∙ c.in_ok-members.ensures.values second s is_club version one in
     let last = c.in_ok-last.ensures.last first s (stores-rows s _ k) in
     let moment = c.later.ensures ∙ ap (λ m. max c.args.moment m) last in

@@ -7,7 +7,7 @@ use Rattle.club_audit.proofs.audit.wrong_game.Goals as goal
 pub returns-in-None : goal.returns-in-None
 returns-in-None c = λ s people.
     let own = c.args.own.now in
-    no-event s c.args.rows.now people c.args.place own.game.now own.moves.now own.seen.now c.args.last
+    no-event s c.args.rows.now people c.args.place own.game.now own.moves.now own.rulings.now own.seen.now c.args.last
     (c.event_of.ensures.none c.in-None.is)
 
 pub returns-in-None-declares_in : goal.returns-in-None-declares_in
@@ -25,6 +25,7 @@ returns c = λ s people.
     subst (λ n. NamesRule c.args.rows.now c.args.own.now.game.now n c.in-Some-declares_in.declares)
     (same-pos _ _ (sym told.event_is ∙ named.event_is)) told in
     let own = c.args.own.now in
-    placed-first s c.args.rows.now people c.args.place own.game.now own.moves.now own.seen.now c.args.last id
+    placed-first s c.args.rows.now people c.args.place own.game.now own.moves.now own.rulings.now own.seen.now c.args.last id
     _ _ named ruled _ _ _ c.in_ok-wrong.ensures c.stands_at.ensures.sound c.stands_at.ensures.complete
-    c.with_place.ensures.stands c.with_place.ensures.moves c.with_place.ensures.games
+    c.with_place.ensures.stands c.with_place.ensures.moves c.with_place.ensures.rulings
+    c.with_place.ensures.games

@@ -9,7 +9,7 @@ use Rattle.club_audit.proofs.FirstLemmas.{all-tables, up-to-closings, up-to-meta
 use Rattle.club_audit.proofs.PeopleLemmas.{events-count, members-count, ruled-of, rules-counted}
 use Rattle.club_rows.proofs.Proved.{same-pos}
 use Rattle.club_rows.specs.Club.{ClubState}
-use Rattle.store_tables.specs.declared.names.Table.TheVariants.{Closings, Events, EventRules, Keys, Members, Moves}
+use Rattle.store_tables.specs.declared.names.Table.TheVariants.{Closings, Events, Keys, Members, Moves}
 use Rattle.store_tables.specs.declared.names.Table.TheVariants.{Meta, Rulings}
 use Rattle.club_audit.proofs.audit.wrong_register.Goals as goal
 

@@ -7,11 +7,11 @@ returns-clause-sound c =
     let own = c.args.own.now in
     event-sound c.args.event.now c.args.declares c.args.last
     (omega (arith, c.seconds-within.ensures.value, c.seconds-within.ensures.range)) own.game.now own.moves.now
-    own.seen.now c.in_ok-wrong.wrong c.in_ok-wrong.ensures
+    own.rulings.now own.seen.now c.in_ok-wrong.wrong c.in_ok-wrong.ensures
 
 pub returns-clause-complete : goal.returns-clause-complete
 returns-clause-complete c =
     let own = c.args.own.now in
     event-complete c.args.event.now c.args.declares c.args.last
     (omega (arith, c.seconds-within.ensures.value, c.seconds-within.ensures.range)) own.game.now own.moves.now
-    own.seen.now c.in_ok-wrong.wrong c.in_ok-wrong.ensures
+    own.rulings.now own.seen.now c.in_ok-wrong.wrong c.in_ok-wrong.ensures

@@ -1,4 +1,4 @@
-use Rattle.std.proofs.Common.{◌≡◌, string_bytes, sym, ap, ◌∙◌}
+use Rattle.std.proofs.Common.{string_bytes, sym, ap, ◌∙◌}
 use Rattle.club_requests.specs.Outcome.{by_officer}
 use Rattle.club_core.specs.Answer.{answered}
 use Rattle.club_core.specs.Closings.{close_step}

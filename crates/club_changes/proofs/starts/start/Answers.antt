@@ -1,9 +1,10 @@
 use Rattle.std.specs.Option.{option_map}
 use Rattle.std.proofs.Common.{None, ap, refl, sym, ◌∙◌}
-use Rattle.club_core.specs.Game.{end_with, score_with}
+use Rattle.club_core.specs.Game.{end_with}
 use Rattle.club_core.specs.State.{seated}
 use Rattle.club_rows.specs.internal.Replay.{terms_given}
 use Rattle.store_tables.specs.Cells.{game_cells, seen_cells}
+use Rattle.club_rows.proofs.Proved.{met_running}
 use Rattle.club_changes.proofs.ReadRows.{one_pushed}
 use Rattle.club_changes.proofs.ClubPlayed.{seated_cells}
 use Rattle.club_changes.proofs.starts.start.Goals as goal
@@ -24,5 +25,5 @@ returns-clause-puts g c legal =
 
 pub returns-clause-running : goal.returns-clause-running
 returns-clause-running g c =
-    let laws = g.R.Rules.rules in
-    ap (λ e. score_with laws (end_with e None) (laws.turn laws.start)) g.met.R.Rules.starts_running
+    met_running g.R.Rules.rules (seated (option_map (λ k. k.now) c.args.key) c.args.new.pairing c.args.moment)
+    (ap (λ e. end_with e None None) g.met.R.Rules.starts_running)

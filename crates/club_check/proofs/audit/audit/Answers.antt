@@ -51,7 +51,7 @@ returns-in-Ok-false-clause-challenged c s people t is = (
 )
 
 pub returns-in-Ok-false-are_apart-clause-later : goal.returns-in-Ok-false-are_apart-clause-later
-returns-in-Ok-false-are_apart-clause-later c = some_later Games (inl (omega arith, omega arith, λ is. cc))
+returns-in-Ok-false-are_apart-clause-later c = some_later Games (inl (omega arith, omega arith))
 
 pub returns-in-Ok-false-are_apart-clause-apart : goal.returns-in-Ok-false-are_apart-clause-apart
 returns-in-Ok-false-are_apart-clause-apart c after = let low = after Games refl in absurd (omega (arith, low))

@@ -1,5 +1,7 @@
 use Rattle.std.proofs.Common.{◌≡◌, rules}
 use Rattle.sqlite.specs.Held.{state}
+use Rattle.store_tables.specs.Cells.{IsSeen}
+use Rattle.store_tables.specs.Tables.{seen}
 use Rattle.store_tables.specs.declared.names.Table.TheVariants.{Seen}
 use Rattle.club_check.specs.internal.Faults.{told}
 use Rattle.club_check.proofs.StoredLemmas.{stands}
@@ -19,5 +21,5 @@ returns-in-WrongType-clause-untyped g c clean none has = (
 pub returns-in_default-clause-reason_is_right : goal.returns-in_default-clause-reason_is_right
 returns-in_default-clause-reason_is_right g c clean has =
     let is : c.fault_in.result ≡ told Seen c.in-Err.fault = search rules in
-    told_typed (state g.S.Store c.args.conn.now) c.in-Err.fault c.fault_in.result is c.in_default.not-WrongType
+    told_typed Seen (seen 12) IsSeen (state g.S.Store c.args.conn.now) c.in-Err.fault c.fault_in.result is c.in_default.not-WrongType
     (c.in-Err.ensures.reason_is_right clean (stands Seen tt has))

@@ -38,8 +38,8 @@ returns-in-Ok-false-clause-scores g c clean has t is = (
 )
 
 pub returns-in-Ok-false-clause-reason_is_right : goal.returns-in-Ok-false-clause-reason_is_right
-returns-in-Ok-false-clause-reason_is_right g c clean has =
-    inr (scores_blamed c.args.rows.now _ (returns-in-Ok-false-clause-scores g c clean has Scores refl).1)
+returns-in-Ok-false-clause-reason_is_right g c clean version has =
+    inr (scores_blamed c.args.rows.now version _ (returns-in-Ok-false-clause-scores g c clean has Scores refl).1)
 
 pub returns-in-Err-clause-scores : goal.returns-in-Err-clause-scores
 returns-in-Err-clause-scores g c clean has =
@@ -47,6 +47,6 @@ returns-in-Err-clause-scores g c clean has =
     (c.in-Err.ensures.reason_is_right clean (stands Scores tt has))
 
 pub returns-in-Err-clause-reason_is_right : goal.returns-in-Err-clause-reason_is_right
-returns-in-Err-clause-reason_is_right g c clean has =
+returns-in-Err-clause-reason_is_right g c clean version has =
     inl (names_both Scores (scores 14) 7 IsScore (state g.S.Store c.args.conn.now) _ refl refl (λ content all. all)
     (c.in-Err.ensures.reason_is_right clean (stands Scores tt has)))

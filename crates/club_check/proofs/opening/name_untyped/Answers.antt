@@ -6,11 +6,11 @@ use Rattle.club_check.specs.internal.Examined.{IsPlayExamined, NamesPlay}
 use Rattle.club_check.specs.ReasonIsRight.{NamesTable}
 use Rattle.club_check.specs.internal.RightTables.{NamesPlayed}
 use Rattle.club_check.specs.declared.fault.OpenFault.TheVariants.{Damaged}
-use Rattle.club_check.proofs.KnownLemmas.{fault_failed, named_damage, named_failed, named_right}
+use Rattle.club_check.proofs.KnownLemmas.{IsNamedFor, fault_failed, named_damage, named_failed, named_right}
 use Rattle.club_check.proofs.opening.name_untyped.Goals as goal
 
 pub returns-in-Err-clause-first_damaged : goal.returns-in-Err-clause-first_damaged
-returns-in-Err-clause-first_damaged g c clean has s people ids = elim c.in-Err.ensures.fault [
+returns-in-Err-clause-first_damaged g c clean version has s people ids = elim c.in-Err.ensures.fault [
   | inl memory ↦ inr (inl memory)
   | inr (t, is, none) ↦
       let (named, wrong) = c.in-Err.ensures.challenged s people t is in
@@ -18,7 +18,7 @@ returns-in-Err-clause-first_damaged g c clean has s people ids = elim c.in-Err.e
 ]
 
 pub returns-in-Ok-examine_play-clause-first_damaged : goal.returns-in-Ok-examine_play-clause-first_damaged
-returns-in-Ok-examine_play-clause-first_damaged g c clean has s people ids =
+returns-in-Ok-examine_play-clause-first_damaged g c clean version has s people ids =
     let s0 = state g.S.Store c.args.conn.now in
     let s1 = state g.S.Store c.examine_play.new.conn in
     let judged : Rows = record c.args.rows { games = c.args.judged } in
@@ -26,29 +26,42 @@ returns-in-Ok-examine_play-clause-first_damaged g c clean has s people ids =
     record { members = people.members; events = people.events; rules = people.rules } in
     let there = subst (HasPeople s) (sym c.with_games-rows.ensures) own in
     let wrong = c.in-Ok-examine_play.wrong in
-    named_right c.args.rows judged c.to_moment.result wrong s0 s1 c.named_by.result c.in-Ok.ensures.challenges
-    (subst (λ rows. IsPlayExamined rows c.to_moment.result wrong s0 s1) c.with_games-rows.ensures
-    (c.in-Ok-examine_play.ensures.found clean has))
-    (c.in-Ok-examine_play.ensures.later s there (λ t is. cc)) s own ids c.named_by.ensures.moves
-    c.named_by.ensures.games
+    named_right c.args.rows judged c.to_moment.result wrong version s0 s1 c.named_by.result c.in-Ok.ensures.challenges
+    (subst (λ rows. IsPlayExamined rows c.to_moment.result wrong version s0 s1) c.with_games-rows.ensures
+    (c.in-Ok-examine_play.ensures.found clean version has))
+    (c.in-Ok-examine_play.ensures.later s there (λ t is. cc)) s own ids
+    (c.named_by.ensures.moves, c.named_by.ensures.rulings, c.named_by.ensures.games)
 
 pub returns-in-Ok-examine_play-clause-faults : goal.returns-in-Ok-examine_play-clause-faults
-returns-in-Ok-examine_play-clause-faults g c clean has = inr (inr
-    (named_damage c.in-Ok-examine_play.wrong c.named_by.result c.named_by.ensures.moves c.named_by.ensures.games))
+returns-in-Ok-examine_play-clause-faults g c clean version has = inr (inr
+    (named_damage c.in-Ok-examine_play.wrong c.named_by.result
+    (c.named_by.ensures.moves, c.named_by.ensures.rulings, c.named_by.ensures.games)))
 
 pub returns-clause-first_damaged : goal.returns-clause-first_damaged
-returns-clause-first_damaged g c clean has s people ids =
+returns-clause-first_damaged g c clean version has s people ids =
     let judged : Rows = record c.args.rows { games = c.args.judged } in
     let db = (state g.S.Store c.args.conn.now).now in
     let fault = c.in-Err-examine_play.fault in
-    named_failed fault c.named_for.result c.named_for.ensures.damaged c.named_for.ensures.other db c.args.rows judged
-    c.in-Ok.ensures.challenges
-    (subst (λ rows. NamesPlayed rows db fault) c.with_games-rows.ensures
-    (c.in-Err-examine_play.ensures.later_fault clean has))
-    (subst (λ rows. NamesTable db fault ⊎ NamesPlay rows db fault) c.with_games-rows.ensures
-    (c.in-Err-examine_play.ensures.reason_is_right clean has))
+    let for : IsNamedFor fault c.named_for.result = record {
+      moves = c.named_for.ensures.moves;
+      rulings = c.named_for.ensures.rulings;
+      games = c.named_for.ensures.games;
+      other = c.named_for.ensures.other;
+    } in
+    named_failed fault c.named_for.result for version db c.args.rows judged c.in-Ok.ensures.challenges
+    (subst (λ rows. NamesPlayed rows version db fault) c.with_games-rows.ensures
+    (c.in-Err-examine_play.ensures.later_fault clean version has))
+    (subst (λ rows. NamesTable db fault ⊎ NamesPlay rows version db fault) c.with_games-rows.ensures
+    (c.in-Err-examine_play.ensures.reason_is_right clean version has))
 
 pub returns-clause-faults : goal.returns-clause-faults
-returns-clause-faults g c clean has =
-    fault_failed c.in-Err-examine_play.fault c.named_for.result c.named_for.ensures.damaged c.named_for.ensures.other
-    (state g.S.Store c.args.conn.now).now c.with_games-rows.result (c.in-Err-examine_play.ensures.reason_is_right clean has)
+returns-clause-faults g c clean version has =
+    let fault = c.in-Err-examine_play.fault in
+    let for : IsNamedFor fault c.named_for.result = record {
+      moves = c.named_for.ensures.moves;
+      rulings = c.named_for.ensures.rulings;
+      games = c.named_for.ensures.games;
+      other = c.named_for.ensures.other;
+    } in
+    fault_failed fault c.named_for.result for version (state g.S.Store c.args.conn.now).now c.with_games-rows.result
+    (c.in-Err-examine_play.ensures.reason_is_right clean version has)

@@ -10,15 +10,16 @@ use Rattle.store_tables.specs.internal.Cells.{member_cells}
 use Rattle.store_tables.specs.internal.Rows.{HaveIds}
 use Rattle.club_audit.specs.internal.Audit.{HasPeople}
 use Rattle.club_check.specs.internal.KnownGames.{NamesUntyped}
-use Rattle.club_check.specs.ReasonIsRight.{HoldsOnly, IsRightFault}
-use Rattle.club_check.specs.internal.Examined.{moves_in}
 use Rattle.club_check.specs.RightTables.{NamesFirstDamaged}
 use Rattle.club_check.specs.internal.RightTables.{IsUnheld, NamesWrong}
 use Rattle.club_rows.specs.FirstSchema.{tables_at}
-use Rattle.club_check.proofs.ArbiterLemmas.{IsNamedWith, are_ruled, closings_before, keys_before, named_either}
-use Rattle.club_check.proofs.ArbiterLemmas.{none_ruled, rulings_after, rulings_before, rulings_unchanged}
-use Rattle.club_check.proofs.KnownLemmas.{judged_ids, judged_in, first_untyped, known_before, ruled_untyped}
-use Rattle.club_check.proofs.KnownLemmas.{JudgesMoves, judged_known, judged_moves, untyped_blamed}
+use Rattle.club_check.proofs.ArbiterLemmas.{closings_before, keys_before, rulings_after, rulings_before}
+use Rattle.club_check.proofs.ArbiterLemmas.{rulings_unchanged}
+use Rattle.club_check.proofs.ExaminedLemmas.{ruling_count, still_counted}
+use Rattle.club_check.specs.internal.RightMoves.{HoldsOnlyOf}
+use Rattle.club_check.proofs.JudgedPlay.{JudgesPlay, judged_play}
+use Rattle.club_check.proofs.KnownLemmas.{judged_ids, judged_in, judged_known, first_untyped, known_before}
+use Rattle.club_check.proofs.KnownLemmas.{untyped_blamed}
 use Rattle.club_check.proofs.PeopleLemmas.{has_people, people_right}
 use Rattle.club_check.proofs.StoredLemmas.{stands}
 use Rattle.club_check.proofs.FirstWrong.{after_people, challenge_types_wrong, held_same}
@@ -212,16 +213,11 @@ returns-then-not-are_typed-clause-reason_is_right g c clean has =
     let same2 = stays same1 are_challenges.same in
     let known = known_before same2 (c.in-Ok-read_games.ensures.known clean3 c.if-not-are_typed.true (still same2 has.club))
     in
-    let it : IsNamedWith c.in-Ok-count_rulings.rulings c.name_untyped.result c.named_with.result = record {
-      none = c.named_with.ensures.none;
-      later = c.named_with.ensures.later;
-      sooner = c.named_with.ensures.sooner;
-      other = c.named_with.ensures.other;
-    } in
-    named_either _ _ _ it (IsRightFault c.args.oldest s0.now)
-    (λ late. untyped_blamed c.args.oldest s0.now _ known.untyped
-    (c.name_untyped.ensures.faults clean (still known.same has.club)))
-    (λ t some is late. untyped_blamed c.args.oldest s0.now _ known.untyped (inr (inr (_, refl))))
+    let count = ruling_count version c.in-Ok-count_rulings.rulings s0 _ people.schema
+    (rulings_after version _ _ people.same counted) in
+    untyped_blamed c.args.oldest s0.now _ known.untyped
+    (c.name_untyped.ensures.faults clean version
+    (still_counted version c.in-Ok-count_rulings.rulings known.same count))
 
 pub returns-then-not-are_typed-clause-first : goal.returns-then-not-are_typed-clause-first
 returns-then-not-are_typed-clause-first g c clean has =
@@ -268,22 +264,13 @@ returns-then-not-are_typed-clause-first g c clean has =
     } in
     let judges = judged_known rows s0 s2 s all.people people.members.keeps people.events.keeps
     (read_after same1 are_challenges) known.shown known.keeps known.seats in
-    let moves : HoldsOnly s0.now (λ v content. JudgesMoves v content judged (moves_in (club_trees s0.now))) =
-    λ v content holds. judged_moves judged version s0 s2 people.events.keeps rules_read one s there v content
-    holds (judged_in (content 10) known.shown judged.games.items
+    let play : HoldsOnlyOf version s0.now (λ content. JudgesPlay version content judged s0.now) =
+    λ content holds. judged_play judged version s0 s2 people.events.keeps rules_read s there content holds
+    (judged_in (content 10) known.shown judged.games.items
     (held_same (games 10) 5 refl refl holds known.keeps) known.ids known.judged) in
-    let names = before (λ d. NamesUntyped rows judged d c.name_untyped.result) known.same
-    (c.name_untyped.ensures.first_damaged clean (still known.same has.club) s all.people ids) in
-    let count = c.in-Ok-count_rulings.rulings in
     let own = rulings_after version _ _ people.same counted in
-    let it : IsNamedWith count c.name_untyped.result c.named_with.result = record {
-      none = c.named_with.ensures.none;
-      later = c.named_with.ensures.later;
-      sooner = c.named_with.ensures.sooner;
-      other = c.named_with.ensures.other;
-    } in
-    named_either count _ _ it (NamesFirstDamaged s0.now)
-    (λ late. first_untyped rows judged s0.now c.name_untyped.result known.untyped right judges moves
-    (λ t is low. none_ruled version count s0 _ one (late t is low) own) names)
-    (λ t some is low. ruled_untyped rows judged s0.now c.name_untyped.result right judges moves names t is low
-    (are_ruled version count s0 _ one some own))
+    let count = ruling_count version c.in-Ok-count_rulings.rulings s0 _ people.schema own in
+    let names = before (λ d. NamesUntyped rows judged version d c.name_untyped.result) known.same
+    (c.name_untyped.ensures.first_damaged clean version
+    (still_counted version c.in-Ok-count_rulings.rulings known.same count) s all.people ids) in
+    first_untyped rows judged version s0.now c.name_untyped.result one known.untyped right judges play names

@@ -3,14 +3,14 @@ use Rattle.std.specs.Prelude.{slice_get}
 use Rattle.std.specs.Option.{option_map}
 use Rattle.club_rules.specs.Line.{IsPlayedLine}
 use Rattle.club_core.specs.declared.rows.GameEnd.TheVariants.{Rule}
-use Rattle.club_core.specs.Game.{moves_of, clocks_of, left_of, last_position, turn_of, end_of, rule_end, result_of}
+use Rattle.club_core.specs.Game.{moves_of, clocks_of, clocks_then, left_of, last_position, turn_of, end_of, rule_end}
 use Rattle.club_core.specs.Game.{score_with, spend}
 use Rattle.club_core.specs.Step.{played}
 use Rattle.club_core.specs.View.{IsSound, clocks_in, terms_of, track_of_game}
 use Rattle.club_core.specs.internal.View.{IsMade, CanPlay}
-use Rattle.club_core.proofs.Legals.{no-rule-end}
+use Rattle.club_core.proofs.GrantLemmas.{AreUpTo}
 use Rattle.club_core.proofs.Played.{last-played, rule_end-played, end-played, made-played, clocks-played, reply-played}
-use Rattle.club_core.proofs.Played.{moved-same, score-none}
+use Rattle.club_core.proofs.Played.{moved-same, clocks_of-played, no-rule-end}
 use Rattle.club_core.proofs.Tracked.{line-played, next-track, moves-count, rule_in-Rule, tracked-end}
 use Rattle.club_core.proofs.moves.accept_move.Goals as goal
 
@@ -38,30 +38,30 @@ returns g c = λ game shows legal.
     let row = c.in_ok-row.row in
     let to_move : c.args.turn ≡ turn_of laws game = can.to_move ∙ ap laws.turn shows.position in
     let new = played game m moment in
-    let running : result_of laws game ≡ None = sym shows.row.result ∙ can.running in
+    let running : end_of laws game ≡ None = sym shows.row.end ∙ can.running in
     let ok : laws.check (last_position laws game) m ≡ Ok tt = rw shows.position at can.legal in
     let position : c.play-position.result ≡ last_position laws new =
     c.play-position.ensures ∙ (ap (λ p. laws.play p m) shows.position ∙ sym (last-played laws game m moment)) in
     let line : IsPlayedLine laws laws.start (moves_of new) =
-    line-played laws game m moment legal.line
-    (no-rule-end (rule_end laws game) game.outside (score-none laws (end_of laws game) (turn_of laws game) running))
-    ok in
+    line-played laws game m moment legal.line (no-rule-end (rule_end laws game) _ game.outside running) ok in
     let track : c.track_next-track.result ≡ track_of_game laws new =
     c.track_next-track.ensures ∙ next-track laws game m moment _ _ _ shows.track shows.position position in
     let numbers : row.track ≡ laws.track_numbers (track_of_game laws new) =
     ap (λ r. r.track) others ∙ (c.track_numbers-numbers.ensures ∙ ap laws.track_numbers track) in
-    let clocks : clocks_in row ≡ clocks_of new terms =
+    let up_to : AreUpTo game.rulings (length game.entries) = λ n r at. (legal.rulings.each n r at).plies in
+    let spent : clocks_in row ≡ clocks_then new terms =
     c.in_ok-row.ensures.clocks c.args.view.now.increment can.left
     ∙ (ap (λ side. spend c.args.view.now.increment side moment (clocks_in c.args.view.now.row)) to_move
     ∙ (ap (spend c.args.view.now.increment (turn_of laws game) moment) shows.row.clocks
     ∙ sym (clocks-played laws passes starts game legal.line.legal m moment terms))) in
+    let clocks : clocks_in row ≡ clocks_of new terms = spent ∙ sym (clocks_of-played game m moment up_to terms) in
     let plies : row.plies ≡ length game.entries + 1 =
     ap (λ r. r.plies) others ∙ ap (λ n. n + 1) shows.row.plies in
     let text : string_bytes c.in_ok-text.text ≡ laws.write_move (last_position laws game) m = c.in_ok-text.ensures
     ∙ ap (λ p. laws.write_move p m) shows.position in
-    let left : c.args.left ≡ left_of (turn_of laws game) (clocks_of new terms) =
+    let left : c.args.left ≡ left_of (turn_of laws game) (clocks_then new terms) =
     sym c.in_ok-row.ensures.left
-    ∙ (ap (λ side. left_of side (clocks_in row)) to_move ∙ ap (left_of (turn_of laws game)) clocks) in
+    ∙ (ap (λ side. left_of side (clocks_in row)) to_move ∙ ap (left_of (turn_of laws game)) spent) in
     let written : string_bytes c.in_ok-written.written ≡ laws.write_position (last_position laws new) =
     c.in_ok-written.ensures ∙ ap laws.write_position position in
     let shown : string_bytes c.in_ok-shown.shown ≡ laws.write_position (last_position laws new) =
@@ -91,6 +91,7 @@ returns g c = λ game shows legal.
               track = numbers;
               plies = simp length-append plies;
               offer = ap (λ r. r.offer) others;
+              outside = ap (λ r. r.outside) others ∙ shows.row.outside;
               end = end;
               result =
                   ap

@@ -1,7 +1,8 @@
-use Rattle.std.proofs.Common.{◌≤◌, ◌∙◌, Some, length, refl, sym, ap, subst, arith}
+use Rattle.std.proofs.Common.{◌≤◌, ◌∙◌, [], Some, length, refl, sym, ap, subst, arith}
 use Rattle.club_rules.specs.Line.{position_after, line_track}
 use Rattle.club_rules.specs.internal.Records.{recorded_of}
 use Rattle.club_core.specs.Game.{spend_all}
+use Rattle.club_core.specs.Imports.{recorded_end}
 use Rattle.club_requests.specs.Limits.{most_plies}
 use Rattle.club_core.proofs.Proved.{are_rules}
 use Rattle.club_laws.proofs.Proved.{within-limit}
@@ -46,7 +47,7 @@ returns g c = λ declares.
     let end = c.in_ok-end.ensures ∙ (λ i. laws.judge (c.start-opening.ensures i) (value i)) in
     let left = c.left_after-left.ensures c.args.start
     ∙ ap
-    (λ ms. spend_all c.args.increment First (at_moment c.args.start (length ms))
+    (λ ms. spend_all c.args.increment [] 0 First (at_moment c.args.start (length ms))
     (clocks_with c.args.budget c.args.budget c.args.start)) value in
     record {
       key = ap Some c.in_ok-key.ensures.ok;
@@ -61,6 +62,7 @@ returns g c = λ declares.
       track = c.track_numbers.ensures ∙ ap laws.track_numbers
           (row-track laws key pairing c.args.start r c.line_state_after-line_state.result.track track);
       offer = refl;
+      outside = c.outside_of_record.ensures ∙ ap (λ e. recorded_end e r.score) end;
       end = c.end_of_record.ensures ∙ row-end laws key pairing c.args.start r c.in_ok-end.end end;
       result = row-result laws key pairing c.args.start r c.requires.by_rules;
       position = c.in_ok-position.ensures ∙ ap laws.write_position

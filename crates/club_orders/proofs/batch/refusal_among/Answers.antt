@@ -1,8 +1,10 @@
-use Rattle.std.proofs.Common.{◌≡◌, ◌+◌, suc, ◌∷◌, drop, refl, sym, subst, ◌∙◌, arith}
+use Rattle.std.proofs.Common.{◌≡◌, ◌+◌, suc, ◌∷◌, drop, inl, inr, true, refl, sym, subst, ◌∙◌, arith}
+use Rattle.std.proofs.lemmas.List.Folds.{list_any_at}
 use Rattle.std.proofs.Math.Seq.{drop-cons}
 use Rattle.sqlite.specs.State.{HasCleanDisk}
 use Rattle.sqlite.specs.Held.{state}
 use Rattle.store_tables.proofs.Proved.{read_then}
+use Rattle.club_requests.specs.Questions.{is_arbiters}
 use Rattle.club_orders.specs.Batches.{IsAsked}
 use Rattle.club_orders.proofs.GivingLemmas.{asked_last, asked_more}
 use Rattle.club_orders.proofs.TakenLemmas.{still_asked}
@@ -50,3 +52,19 @@ loop-question-preserved g c =
 pub returns-in-Ok-Some-clause-reads : goal.returns-in-Ok-Some-clause-reads
 returns-in-Ok-Some-clause-reads g c =
     read_then _ _ _ _ c.loop-question.invariant.reads c.in-Ok-Some.ensures.reads
+
+pub returns-in-Err-clause-possible_faults : goal.returns-in-Err-clause-possible_faults
+returns-in-Err-clause-possible_faults g c =
+    let questions = c.args.questions.now in
+    let k = c.loop-question.question-index in
+    let question = c.question-item.result in
+    elim c.in-Err.ensures.possible_faults [
+      | inl store ↦ inl store
+      | inr (inl memory) ↦ inr (inl memory)
+      | inr (inr (schema, needs, none)) ↦ inr (inr (
+        schema,
+        list_any_at is_arbiters questions k question c.loop-question-test.true
+            (subst (λ q. is_arbiters q ≡ true) c.question-item.is needs),
+        sym c.loop-question.invariant.schema ∙ none,
+      ))
+    ]

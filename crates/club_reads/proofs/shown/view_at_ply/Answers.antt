@@ -8,12 +8,12 @@ use Rattle.store_tables.proofs.Proved.{read_then, still_rows}
 use Rattle.club_reads.proofs.shown.view_at_ply.Goals as goal
 
 pub returns-clause-shows : goal.returns-clause-shows
-returns-clause-shows g c clean content game k seen moves of =
+returns-clause-shows g c clean content game k seen moves judged of =
     let laws = g.R.Rules.rules in
     let stored = c.args.stored.now in
     let looked : HasCleanDisk (state g.S.Store c.view.new.conn) = omega (arith, c.rows_at.ensures.reads.clean) in
     let kept = still_rows _ _ (c.in_ok-view.ensures.reads.kept refl looked) content k in
-    let shows = c.in_ok-view.ensures.shows looked content game k seen of in
+    let shows = c.in_ok-view.ensures.shows looked content game k seen judged of in
     let rows = c.in_ok-rows.ensures.found clean content (terms_given stored.terms) game kept moves of.legal in
     let is = c.in_ok-view.ensures.terms in (
       c.in_ok-asked.ensures.shows game shows,

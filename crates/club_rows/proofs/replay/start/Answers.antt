@@ -6,7 +6,7 @@ use Rattle.club_rows.proofs.ReplayLemmas.{start-replayed}
 use Rattle.club_rows.proofs.replay.start.Goals as goal
 
 pub returns-clause-safe : goal.returns-clause-safe
-returns-clause-safe g c = λ increment.
+returns-clause-safe g c =
     let laws = g.R.Rules.rules in
     let made = c.in_ok-stood.ensures in
     let none = c.new-tally.ensures c.in_ok-text.text in
@@ -16,5 +16,5 @@ returns-clause-safe g c = λ increment.
     (seen-none _ _ 0 none made.stood)
     (λ other. made.adds other ∙ ap (cond (same_text c.in_ok-text.text other) (Some c.in_ok-stood.stood))
     (c.new-tally.ensures other)) in
-    start-replayed laws increment _ c.new.ensures.items c.start-position.ensures
-    (c.track_start.ensures ∙ ap laws.track_start c.start-position.ensures) told.0 told.1 c.requires c.requires
+    start-replayed laws _ c.new.ensures.items c.start-position.ensures
+    (c.track_start.ensures ∙ ap laws.track_start c.start-position.ensures) told.0 told.1

@@ -1,6 +1,7 @@
 use Rattle.std.proofs.Common.{◌≤◌, ◌+◌, length, subst, arith, ◌∙◌}
 use Rattle.club_rules.specs.Line.{IsLegalLine}
 use Rattle.club_rows.specs.internal.Replay.{IsNext, terms_with, left_in}
+use Rattle.club_rows.proofs.GrantLemmas.{moved-left}
 use Rattle.club_rows.proofs.NextLemmas.{follows-next, next-follows, replays-more}
 use Rattle.club_rows.proofs.ReplayLemmas.{replayed-more}
 use Rattle.club_rows.proofs.replay.with_row.Goals as goal
@@ -18,12 +19,14 @@ returns-in_ok-new-in-Some g c =
     let turn = rw c.in-Some.is at c.in_ok-next.ensures.turn in
     let text = rw c.in-Some.is at c.in_ok-next.ensures.text in
     let most : found.left ≤ left_in old (laws.turn old.position) + c.args.increment = omega (arith, next.time.left) in
+    let (first, second) = moved-left old new found.turn c.args.increment (rw (made.mover, turn) most) made.other in
     record {
-      safe = replayed-more laws g.met.R.Rules.same_position_is g.met.R.Rules.texts_tell_positions c.args.increment
-          (length old.line.items) old new found.turn found.made found.position found.text c.requires.game
-          c.requires.room next.running next.legal position made.line made.position (rw (made.mover, turn) most)
-          made.other
+      safe = replayed-more laws g.met.R.Rules.same_position_is g.met.R.Rules.texts_tell_positions
+          (length old.line.items) old new found.made found.position found.text c.requires.game
+          c.requires.room next.running next.legal position made.line made.position
           (record { text_is = text; track = made.track; stood = made.stood; adds = made.tally });
+      first = first;
+      second = second;
       some = λ budget declares game replays.
           let line = subst (IsLegalLine laws laws.start) replays.line c.requires.game.line.legal in
           let terms = terms_with budget c.args.increment declares in (

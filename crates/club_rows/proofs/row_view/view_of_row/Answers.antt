@@ -14,7 +14,7 @@ returns-in-None-clause-found g c = λ id game is.
     c.in-None.ensures)
 
 pub returns-clause-shows : goal.returns-clause-shows
-returns-clause-shows g c = λ id game is stands.
+returns-clause-shows g c = λ id game is stands over.
     let laws = g.R.Rules.rules in
     let terms = terms_given c.args.terms in
     let stored = c.in-Some.stored in
@@ -24,7 +24,7 @@ returns-clause-shows g c = λ id game is stands.
     (moves_of game) is.legal.line.legal stored.position.now text c.in_ok-position.field-0 c.in_ok-position.ensures in
     let last = same_Some _ _ (sym c.in-Some-2.is ∙ found) in
     record {
-      row = c.in_ok-new.ensures.shows terms id game is.legal same last stands;
+      row = c.in_ok-new.ensures.shows terms id game is.legal same last stands over;
       position = last;
       track = c.track_of.ensures ∙ track-is laws terms id game is.legal (columns_in stored) same
           g.met.R.Rules.numbers_give_tracks;

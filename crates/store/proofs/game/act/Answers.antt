@@ -15,12 +15,12 @@ use Rattle.store.proofs.game.act.Goals as goal
 pub returns-clause-step : goal.returns-clause-step
 returns-clause-step g c clean =
     let looked = clean_before c.decide_in_game.ensures.reads clean in
-    IfOk-weaker c.decide_in_game.result _ _ (λ d step content old k tells plays of since.
+    IfOk-weaker c.decide_in_game.result _ _ (λ d step content old k tells plays verdict of since.
     let laws = g.R.Rules.rules in
     let terms = terms_given c.args.stored.now.terms in
     let command = game_command_of c.args.command.now in
     let view = c.in_ok-view.view in
-    let (shows, asked) = c.in_ok-view.ensures.shows looked content old k tells plays of in
+    let (shows, asked) = c.in_ok-view.ensures.shows looked content old k tells plays verdict of in
     let is = c.in_ok-view.ensures.terms in
     let kept = rows_after c.in_ok-view.ensures.reads looked content k in
     let asked_for = subst (λ n. ShowsPly laws old n view) c.asked_ply-ply.ensures asked in

@@ -1,22 +1,20 @@
-use Rattle.std.proofs.Common.{◌≡◌, ◌<◌, true, false, arith, inl, inr, refl, ap, subst, sym, ◌∙◌, [], ◌∷◌, ◌++◌}
+use Rattle.std.proofs.Common.{arith, inl, inr, refl, ap, subst, sym, ◌∙◌}
 use Rattle.std.proofs.Common.{true≢false}
 use Rattle.sqlite.specs.Held.{state}
 use Rattle.sqlite.specs.State.{HasCleanDisk}
 use Rattle.store_tables.specs.Over.{alone}
 use Rattle.store_tables.specs.Migrations.{HoldsInVersion, LeavesInVersion}
-use Rattle.store_tables.specs.Tables.{IsServed, schema_number}
-use Rattle.store_tables.specs.declared.names.Version.TheVariants.{V1, V2, V3}
+use Rattle.store_tables.specs.Tables.{IsServed}
+use Rattle.store_tables.specs.declared.names.Version.TheVariants.{V3}
 use Rattle.store_tables.specs.Club.{IsExactly}
-use Rattle.store_tables.proofs.Proved.{alone_exactly, alone_in_version, beside_same, holds_itself, leaves_in_version}
-use Rattle.store_tables.proofs.Proved.{left_same, reads_then, still_beside, still_in_version}
-use Rattle.club_check.specs.declared.fault.OpenFault.TheVariants.{Damaged, Foreign}
-use Rattle.club_check.proofs.Proved.{tables_told}
+use Rattle.store_tables.proofs.Proved.{alone_exactly, alone_in_version, beside_same, leaves_in_version}
+use Rattle.store_tables.proofs.Proved.{left_same, still_beside, still_in_version}
 use Rattle.club_rows.specs.Club.{ClubState, tables}
 use Rattle.club_rows.specs.FirstSchema.{IsClubOf, tables_at, upgraded_to}
-use Rattle.store.specs.Histories.{IsHistory, IsReachableIn, upgraded}
-use Rattle.store.specs.Upgrades.{IsNameTaken, uses_names_of}
+use Rattle.store.specs.Histories.{IsHistory}
+use Rattle.store.specs.Upgrades.{uses_names_of}
 use Rattle.store.specs.declared.upgrade_result.Upgrade.TheVariants as result
-use Rattle.store.proofs.HistoryLemmas.{exactly_served, holds_in_version, opens_led, still_stands, tables_served}
+use Rattle.store.proofs.HistoryLemmas.{exactly_served, holds_in_version, opens_led, still_stands}
 use Rattle.store.proofs.UpgradeLemmas.{found_stands, found_widened, left_later, none_added, not_before, serves_from}
 use Rattle.store.proofs.UpgradeLemmas.{tables_later, upgrade_stays, upgraded_cut, upgraded_itself, upgraded_stands}
 use Rattle.store.proofs.UpgradeLemmas.{last_reached, served_before, sooner, used_reached}

@@ -37,7 +37,8 @@ returns g c =
     let is : IsRowOf laws terms game row = c.in_ok-row.ensures c.args.terms.declares in
     let limit = within-limit laws are r.moves c.requires.by_rules.line in
     let count : length game.entries ≡ length r.moves = length-map r.moves (λ m. record { made = m; moment = moment }) in
-    let room = room_for game terms c.requires.budget c.requires.increment (omega (arith, limit, count)) in
+    let room = room_for game terms c.requires.budget c.requires.increment (omega (arith, limit, count)) (omega arith)
+    (λ n r at. cc) in
     let first = ap (λ k. k.left_first) is.clocks in
     let second = ap (λ k. k.left_second) is.clocks in
     record {

@@ -1,4 +1,4 @@
-use Rattle.std.proofs.Common.{◌≡◌, ◌+◌, ◌*◌, ◌≤◌, map, take}
+use Rattle.std.proofs.Common.{◌≡◌, ◌+◌, ◌*◌, ◌≤◌, [], map, take}
 use Rattle.club_rules.specs.Line.{position_after}
 use Rattle.club_core.specs.Game.{clocks_of}
 use Rattle.club_imports.specs.internal.OneMoment.{clocks_with}
@@ -14,7 +14,7 @@ invariant-loop-i g l =
           (take l.i l.moves);
       position : l.position ≡ position_after g.R.Rules.rules g.R.Rules.rules.start (take l.i l.moves);
       clocks : clocks_with l.left.first l.left.second l.moment ≡ clocks_of
-          (game_from l.moment (entries_at_once l.moment (take l.i l.moves))) (terms_given l.terms);
+          (game_from [] l.moment (entries_at_once l.moment (take l.i l.moves))) (terms_given l.terms);
       first : l.left.first ≤ 31536000 + l.i * 2592000;
       second : l.left.second ≤ 31536000 + l.i * 2592000;
     }

@@ -1,4 +1,7 @@
 use Rattle.std.proofs.Common.{◌≡◌, ◌⊎◌, ◌+◌, ◌∷◌, [], ◌++◌, length, ◌∙◌, refl, subst, sym, ap, arith, true, true≢false}
+use Rattle.std.proofs.Common.{inl, inr}
+use Rattle.std.specs.List.{list_any}
+use Rattle.club_requests.specs.Questions.{is_arbiters}
 use Rattle.sqlite.specs.State.{HasCleanDisk}
 use Rattle.sqlite.specs.Held.{state}
 use Rattle.std.specs.Prelude.{IsSome}
@@ -123,3 +126,29 @@ returns-in-Ok-Some-clause-next_state g c clean them s k db left =
 pub returns-in-Err-refusal_among-clause-next_state : goal.returns-in-Err-refusal_among-clause-next_state
 returns-in-Err-refusal_among-clause-next_state g c clean them s k db left =
     leaves_beside them (tables s) _ k.holds db (c.in-Err-refusal_among.ensures.reads.may clean db left)
+
+pub returns-in-Err-refusal_among-clause-answer : goal.returns-in-Err-refusal_among-clause-answer
+returns-in-Err-refusal_among-clause-answer g c clean them s k =
+    let requests = c.args.self.now.requests.items in
+    let took : takes_all s requests ≡ true =
+    is_taken (needs_any requests) s.has_arbiter
+    (λ none needs.
+    elim c.else-not-has_arbiter.branch [
+      | else-not-has_arbiter-via-then-not-has_arbiter+else-needs_any w ↦
+          true≢false
+          (sym needs ∙ (ap needs_any (sym w.as_slice.ensures.value) ∙ (sym w.needs_any.ensures ∙ w.if-needs_any.false)))
+      | else-not-has_arbiter-via-else-not-has_arbiter w ↦
+          true≢false (sym w.if-not-has_arbiter.false ∙ (c.has_arbiter.ensures ∙ (k.arbiter ∙ none)))
+    ]) in
+    recorded_by (takes_all s requests) _
+    (λ taken.
+    elim c.in-Err-refusal_among.ensures.possible_faults [
+      | inl store ↦ inl store
+      | inr (inl memory) ↦ inr (inl memory)
+      | inr (inr (schema, needs, none)) ↦ inr (inr (
+        schema,
+        subst (λ qs. list_any is_arbiters qs ≡ true) c.as_slice-3.ensures.value needs,
+        sym k.arbiter ∙ none,
+      ))
+    ])
+    (λ left. absurd (true≢false (sym took ∙ left)))

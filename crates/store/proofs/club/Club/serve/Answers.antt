@@ -1,4 +1,4 @@
-use Rattle.std.proofs.Common.{arith, sym}
+use Rattle.std.proofs.Common.{arith}
 use Rattle.club_core.specs.Answer.{request_of}
 use Rattle.store.proofs.LegalLemmas.{club_stays, taken_by}
 use Rattle.store.proofs.club.Club.serve.Goals as goal

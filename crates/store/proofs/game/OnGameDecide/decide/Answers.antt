@@ -4,6 +4,7 @@ use Rattle.club_requests.specs.declared.answers.Outcome.TheVariants as given_is
 use Rattle.club_rows.proofs.Proved.{in_draughts, in_shogi, stores-rows}
 use Rattle.club_rows.specs.Club.{tables}
 use Rattle.club_changes.proofs.Proved.{stored_decided, unknown_decided}
+use Rattle.club_reads.proofs.Proved.{tells_verdict}
 use Rattle.store_tables.proofs.Proved.{clean_before, reads_on, rows_after}
 use Rattle.store.proofs.game.OnGameDecide.decide.Goals as goal
 
@@ -13,9 +14,10 @@ returns-in-Some-clause-step g c clean =
     IfOk-weaker c.by_kind-act.result _ _ (λ d step s is_club version taken later stored.
     let k = stores-rows s _ stored in
     let (game, at, is) = rw c.in-Some.is at c.in_ok-stored.ensures.found looked s is_club k in
-    let still = rows_after c.in_ok-stored.ensures.reads looked (tables s) k in
+    let still = rows_after c.in_ok-stored.ensures.reads looked (tables s) stored in
     stored_decided in_draughts s is_club _ game c.in-Some.stored c.args.moment c.args.caller _ d later at is
-    c.in-Draughts-by_kind.is (λ old tells plays. step (tables s) old still tells plays))
+    c.in-Draughts-by_kind.is (λ old here tells plays. step (tables s) old (stores-rows s _ still) tells plays
+    (tells_verdict in_draughts s c.in-Some.stored.id old here is_club _ still)))
     (c.by_kind-act.ensures.step clean)
 
 pub returns-in-Some-2-clause-step : goal.returns-in-Some-2-clause-step
@@ -24,9 +26,10 @@ returns-in-Some-2-clause-step g c clean =
     IfOk-weaker c.by_kind-act-in-Some.result _ _ (λ d step s is_club version taken later stored.
     let k = stores-rows s _ stored in
     let (game, at, is) = rw c.in-Some.is at c.in_ok-stored.ensures.found looked s is_club k in
-    let still = rows_after c.in_ok-stored.ensures.reads looked (tables s) k in
+    let still = rows_after c.in_ok-stored.ensures.reads looked (tables s) stored in
     stored_decided in_shogi s is_club _ game c.in-Some.stored c.args.moment c.args.caller _ d later at is
-    c.in-Shogi-by_kind.is (λ old tells plays. step (tables s) old still tells plays))
+    c.in-Shogi-by_kind.is (λ old here tells plays. step (tables s) old (stores-rows s _ still) tells plays
+    (tells_verdict in_shogi s c.in-Some.stored.id old here is_club _ still)))
     (c.by_kind-act-in-Some.ensures.step clean)
 
 pub returns-clause-step : goal.returns-clause-step
