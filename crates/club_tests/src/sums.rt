@@ -55,5 +55,5 @@ fn sums_that_do_not_fit_give_no_rows(rt: HostRuntime) {
         first: 1,
         second: 2,
     };
-    assert!(rt; score_after(pairing, Score::FirstWins, Some(&full), None) == None);
+    assert!(rt; score_after(pairing, Some(Score::FirstWins), Some(&full), None) == None);
 }
