@@ -125,10 +125,10 @@ fn rules_of_events_are_one_for_each(rt: HostRuntime) -> Result<(), Fail> {
 // The row of the opening of a shogi game without moves: its repetition count is 1.
 const STOOD: &str = "(1, 'lnsgkgsnl/1r5b1/ppppppppp/9/9/9/PPPPPPPPP/1B5R1/LNSGKGSNL b -', 1, 0)";
 
-// Games of anna and bert: bert wins the first, the second is running, and the third is drawn.
-const GAMES: &str = "(1, NULL, 1, 1, 2, 1000, 1000, 0, 60, 60, NULL, NULL, NULL, '0-2', '', 0, 0),
+// Games of anna and bert: bert wins the first on time, the second is running, and the third is drawn by agreement.
+const GAMES: &str = "(1, NULL, 1, 1, 2, 1000, 1000, 0, 60, 60, NULL, NULL, 'Time', '0-2', '', 0, 0),
     (2, NULL, 1, 1, 2, 1000, 1000, 0, 60, 60, NULL, NULL, NULL, NULL, '', 0, 0),
-    (3, NULL, 1, 1, 2, 1000, 1000, 0, 60, 60, NULL, NULL, NULL, '1-1', '', 0, 0)";
+    (3, NULL, 1, 1, 2, 1000, 1000, 0, 60, 60, NULL, NULL, 'Agreed', '1-1', '', 0, 0)";
 
 #[test]
 fn rows_that_stand_twice_are_seen(rt: HostRuntime) -> Result<(), Fail> {
